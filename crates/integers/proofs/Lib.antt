@@ -1,0 +1,4 @@
+pub mod Ring
+pub mod Size
+pub mod Cast
+pub mod Floor
