@@ -1,0 +1,4 @@
+pub mod Examples
+pub mod Listings
+pub mod Sides
+pub mod Turns
