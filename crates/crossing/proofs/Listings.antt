@@ -1,9 +1,10 @@
 -- The listing of risings and settings. Assumes nothing.
 use mathlib.Core.Bool.{Bool, true, false, not, cond}
-use mathlib.Core.List.{List, [], _∷_}
+use mathlib.Core.List.{List, [], _∷_, _++_}
 use mathlib.Core.Logic.{_⊎_, inl, inr}
-use mathlib.Core.Path.{_≡_, refl, sym, ap, _∙_, subst}
-use Prim.Native.Nat.{ℕ, zero, suc, _+_, _≤_, _<_}
+use mathlib.Core.Path.{_≡_, refl, sym, ap, ap₂, _∙_, subst}
+use Prim.Native.Nat.{ℕ, zero, suc, _+_, _-_, _≤_, _<_}
+use native.Mathlib.Nat.{add-zero, zero-add, add-suc, suc-add}
 use native.Mathlib.Omega.{arith}
 use lib.ListN.{length, getD}
 use Rattle.std.proofs.shelf.Tests.{cases-bool, cases-lt, cond-true, cond-false, both-ways}
@@ -11,7 +12,7 @@ use Rattle.crossing.specs.declared.event.Crossing.{Crossing}
 use Rattle.crossing.specs.Above.{rises, sets, becomes}
 use Rattle.crossing.specs.Events.{crossings}
 use Rattle.crossing.specs.Promise.{Lists, Listed}
-use Rattle.crossing.proofs.Turns.{became, in-turn}
+use Rattle.crossing.proofs.Turns.{became, becomes-here, in-turn, not-at-first, not-from, not-to}
 
 abbrev crossing : ℕ → Bool → Crossing
 crossing t w = record { tick = t; rises = w }
@@ -93,3 +94,87 @@ listed f t (suc k) = by (listed f (suc t) k) (rises f t) refl (sets f t) refl
     by later true p y q = lists-cons f t k true rest p later
     by later false p true q = lists-cons f t k false rest q later
     by later false p false q = lists-skip f t k rest p q later
+
+-- ---- for a walk that makes the listing
+
+-- a tick with a crossing, and one without
+crossings-one : (f : ℕ → Bool) (t k : ℕ) (w : Bool) → becomes w f t ≡ true → crossings f t (suc k) ≡ crossing t w ∷ crossings f (suc t) k
+unfolding crossings
+crossings-one f t k true h = cond-true _ _ _ h
+crossings-one f t k false h = cond-false _ _ _ (never (rises f t) refl) ∙ cond-true _ _ _ h
+  where
+    never : (x : Bool) → rises f t ≡ x → rises f t ≡ false
+    never true e = absurd (both-ways true (sym (one-kind f false true t h e)) refl)
+    never false e = e
+
+crossings-no : (f : ℕ → Bool) (t k : ℕ) → ((w : Bool) → becomes w f t ≡ false) → crossings f t (suc k) ≡ crossings f (suc t) k
+unfolding crossings
+crossings-no f t k h = cond-false _ _ _ (h true) ∙ cond-false _ _ _ (h false)
+
+-- which of the two it is
+kind : (f : ℕ → Bool) (t : ℕ) → ((w : Bool) × (becomes w f t ≡ true)) ⊎ ((w : Bool) → becomes w f t ≡ false)
+kind f t =
+    elim (cases-bool (rises f t)) [
+      | inl p ↦ inl (true, p)
+      | inr p ↦ elim (cases-bool (sets f t)) [ inl q ↦ inl (false, q) | inr q ↦ inr (neither p q) ]
+    ]
+  where
+    neither : rises f t ≡ false → sets f t ≡ false → (w : Bool) → becomes w f t ≡ false
+    neither p q true = p
+    neither p q false = q
+
+-- a row of ticks, and the ones behind it
+pub crossings-add : (f : ℕ → Bool) (t j k : ℕ) → crossings f t (j + k) ≡ crossings f t j ++ crossings f (t + j) k
+unfolding crossings
+crossings-add f t zero k = ap₂ (crossings f) (sym (add-zero t)) (zero-add k)
+crossings-add f t (suc j) k = go (kind f t) (crossings-add f (suc t) j k)
+  where
+    more : suc j + k ≡ suc (j + k)
+    more = omega arith
+
+    there : crossings f (suc t + j) k ≡ crossings f (t + suc j) k
+    there = ap (λ (n : ℕ). crossings f n k) (suc-add t j ∙ sym (add-suc t j))
+
+    go : ((w : Bool) × (becomes w f t ≡ true)) ⊎ ((w : Bool) → becomes w f t ≡ false) → crossings f (suc t) (j + k) ≡ crossings f (suc t) j ++ crossings f (suc t + j) k → crossings f t (suc j + k) ≡ crossings f t (suc j) ++ crossings f (t + suc j) k
+    go (inl p) rest =
+        ap (crossings f t) more ∙ crossings-one f t (j + k) (p .0) (p .1) ∙ ap (λ (l : List Crossing). crossing t (p .0) ∷ l) rest
+        ∙ ap₂ _++_ (sym (crossings-one f t j (p .0) (p .1))) there
+    go (inr p) rest =
+        ap (crossings f t) more ∙ crossings-no f t (j + k) p ∙ rest ∙ ap₂ _++_ (sym (crossings-no f t j p)) there
+
+-- where it stays as it was there is none
+pub crossings-none : (f : ℕ → Bool) (b : Bool) (t k : ℕ) → f t ≡ b → ((u : ℕ) → suc t ≤ u → u < suc t + k → f u ≡ b) → crossings f (suc t) k ≡ []
+unfolding crossings
+crossings-none f b t zero was stays = refl
+crossings-none f b t (suc k) was stays =
+    let now-so = stays (suc t) (omega arith) (omega arith) in
+    crossings-no f (suc t) k (no-turn b was now-so) ∙ crossings-none f b (suc t) k now-so (λ u p q. stays u (omega arith) (omega arith))
+  where
+    no-turn : (b : Bool) → f t ≡ b → f (suc t) ≡ b → (w : Bool) → becomes w f (suc t) ≡ false
+    no-turn true p q true = not-from true f t p
+    no-turn true p q false = not-to false f t q
+    no-turn false p q true = not-to true f t q
+    no-turn false p q false = not-from false f t p
+
+-- where it turns once, that one
+pub crossings-turn : (f : ℕ → Bool) (b : Bool) (t j k : ℕ) → f t ≡ b → ((u : ℕ) → suc t ≤ u → u < suc t + j → f u ≡ b) → ((u : ℕ) → suc t + j ≤ u → u ≤ suc t + j + k → f u ≡ not b) → crossings f (suc t) (j + suc k) ≡ crossing (suc t + j) (not b) ∷ []
+crossings-turn f b t j k was stays turned =
+    let v = suc t + j in
+    let last : f (t + j) ≡ b = before j stays in
+    let here : f (suc (t + j)) ≡ not b = turned (suc (t + j)) (omega arith) (omega arith) in
+    let e : suc (t + j) ≡ suc t + j = omega arith in
+    crossings-add f (suc t) j (suc k) ∙ ap (λ (l : List Crossing). l ++ crossings f v (suc k)) (crossings-none f b t j was stays)
+    ∙ crossings-one f v k (not b) (subst (λ (n : ℕ). becomes (not b) f n ≡ true) e (becomes-here (not b) f (t + j) here (last ∙ twice b)))
+    ∙ ap (λ (l : List Crossing). crossing v (not b) ∷ l) (crossings-none f (not b) v k (turned v (omega arith) (omega arith)) (λ u p q. turned u (omega arith) (omega arith)))
+  where
+    twice : (b : Bool) → b ≡ not (not b)
+    twice true = refl
+    twice false = refl
+
+    before : (j : ℕ) → ((u : ℕ) → suc t ≤ u → u < suc t + j → f u ≡ b) → f (t + j) ≡ b
+    before zero stays = ap f (add-zero t) ∙ was
+    before (suc j) stays = stays (t + suc j) (omega arith) (omega arith)
+
+-- tick 0 has none
+pub crossings-first : (f : ℕ → Bool) (k : ℕ) → crossings f 0 (suc k) ≡ crossings f 1 k
+crossings-first f k = crossings-no f 0 k (λ w. not-at-first w f)

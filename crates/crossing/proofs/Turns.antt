@@ -5,7 +5,7 @@ use mathlib.Core.Path.{_≡_, refl, sym, ap, ap₂, _∙_, subst}
 use Prim.Native.Nat.{ℕ, zero, suc, _+_, _-_, _<_}
 use native.Mathlib.Nat.{add-suc, add-zero}
 use native.Mathlib.Omega.{arith}
-use Rattle.std.proofs.shelf.Tests.{and-parts, not-true, cases-bool}
+use Rattle.std.proofs.shelf.Tests.{and-parts, and-left, and-right, not-true}
 use Rattle.crossing.specs.Above.{rises, sets, becomes}
 use Rattle.crossing.specs.Promise.{In-turn}
 
@@ -40,6 +40,22 @@ became false f (suc t) h =
   where
     pred : (t : ℕ) → suc t - 1 ≡ t
     pred t = omega arith
+
+-- it does not become so where it was so, nor where it is not
+pub not-from : (w : Bool) (f : ℕ → Bool) (t : ℕ) → f t ≡ w → becomes w f (suc t) ≡ false
+unfolding rises sets
+not-from true f t h = and-right (f (suc t)) (not (f t)) (ap not h)
+not-from false f t h = and-right (not (f (suc t))) (f t) h
+
+pub not-to : (w : Bool) (f : ℕ → Bool) (t : ℕ) → f (suc t) ≡ not w → becomes w f (suc t) ≡ false
+unfolding rises sets
+not-to true f t h = and-left (f (suc t)) (not (f t)) h
+not-to false f t h = and-left (not (f (suc t))) (f t) (ap not h)
+
+pub not-at-first : (w : Bool) (f : ℕ → Bool) → becomes w f 0 ≡ false
+unfolding rises sets
+not-at-first true f = refl
+not-at-first false f = refl
 
 -- what is so in one tick and not so later becomes not so in between
 pub turn-between : (f : ℕ → Bool) (w : Bool) (t k : ℕ) → f t ≡ w → f (t + k) ≡ not w → (v : ℕ) × (t < v) × (v < suc (t + k)) × (becomes (not w) f v ≡ true)
