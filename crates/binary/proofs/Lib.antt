@@ -1,0 +1,5 @@
+mod Leading
+mod Values
+mod Over
+mod Stands
+mod Coded

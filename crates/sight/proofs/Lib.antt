@@ -1,0 +1,2 @@
+pub mod Sighted
+pub mod Skips
