@@ -25,20 +25,28 @@ stays m level t most (suc j) some within le =
   where
     n : ℕ
     n = m .fine
+
     i : ℕ
     i = t / n
+
     k : ℕ
     k = skip (natAbs (height-at m t -ℤ level)) (slope n (m .span i)) most
+
     whole : i * n + t % n ≡ t
     whole = div-add-mod' t n
+
     there : i * n + (t % n + suc j) ≡ t + suc j
     there = omega (arith, whole)
+
     here : height-at m t ≡ height n (m .span i) (t % n)
     here = ap (height-at m) (sym whole) ∙ height-in-span m i (t % n) (mod-lt t some)
+
     distance : natAbs (height-at m t -ℤ level) ≡ natAbs (height n (m .span i) (t % n) -ℤ level)
     distance = ap (λ (h : ℤ). natAbs (h -ℤ level)) here
+
     largest : k * slope n (m .span i) < natAbs (height-at m t -ℤ level)
     largest = skip-some (natAbs (height-at m t -ℤ level)) (slope n (m .span i)) most (omega (arith, le))
+
     far-enough : over m level (i * n + (t % n + suc j)) ≡ over m level (i * n + t % n)
     far-enough =
         may-skip m level i (t % n) k (suc j) (omega (arith, mod-lt t some, skips-most (natAbs (height-at m t -ℤ level)) (slope n (m .span i)) most .within)) le (subst (λ (d : ℕ). k * slope n (m .span i) < d) distance largest)
@@ -52,16 +60,20 @@ sighted m level h end t n s d steep most k some n-is s-is h-is d-is steep-is mos
       till-is = omega (arith, k-at);
       onward = omega arith;
       inside = omega (arith, k-at, within);
-      same = λ u p q. (let e : t + (u - t) ≡ u = omega arith in subst (λ (v : ℕ). over m level v ≡ over m level t) e (stays m level t (room m end t) (u - t) (subst (λ (x : ℕ). 0 < x) n-is some) (omega arith) (omega (arith, k-at)))) }
+      same = λ u p q. (let e : t + (u - t) ≡ u = omega arith in subst (λ (v : ℕ). over m level v ≡ over m level t) e (stays m level t (room m end t) (u - t) (subst (λ (x : ℕ). 0 < x) n-is some) (omega arith) (omega (arith, k-at))));
+    }
   where
     k-at : k ≡ skip (natAbs (height-at m t -ℤ level)) (slope (m .fine) (m .span (t / m .fine))) (room m end t)
     k-at = k-is ∙ (λ i. skip (d-at i) (steep-at i) (most-at i))
       where
         d-at : d ≡ natAbs (height-at m t -ℤ level)
         d-at = d-is ∙ ap (λ (x : ℤ). natAbs (x -ℤ level)) h-is
+
         steep-at : steep ≡ slope (m .fine) (m .span (t / m .fine))
         steep-at = steep-is ∙ ap (slope n) s-is ∙ ap (λ (x : ℕ). slope x (m .span (t / x))) n-is
+
         most-at : most ≡ room m end t
         most-at = most-is ∙ ap (λ (x : ℕ). min (x - 1 - t % x) (end - 1 - t)) n-is
+
     within : skip (natAbs (height-at m t -ℤ level)) (slope (m .fine) (m .span (t / m .fine))) (room m end t) ≤ room m end t
     within = skips-most (natAbs (height-at m t -ℤ level)) (slope (m .fine) (m .span (t / m .fine))) (room m end t) .within

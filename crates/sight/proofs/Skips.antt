@@ -35,7 +35,8 @@ skips-most (suc d) (suc s) most =
     record {
       within = omega arith;
       less = λ h. omega (arith, mul-le-mul-right {m = min q most} {n = q} (suc s) (omega arith), div-mul-le-self d (suc s));
-      most-of-all = λ j l h. omega (arith, le-div-iff-mul-le {k = suc s} {x = j} {y = d} (omega arith) .1 (omega arith)) }
+      most-of-all = λ j l h. omega (arith, le-div-iff-mul-le {k = suc s} {x = j} {y = d} (omega arith) .1 (omega arith));
+    }
 
 -- where any is skipped, as many slopes are less than the distance
 pub skip-some : (d s most : ℕ) → 0 < skip d s most → skip d s most * s < d

@@ -1,8 +1,11 @@
 -- What may be skipped, and the walk that it gives. Assumes nothing: these are definitions.
+use mathlib.Core.Bool.{Bool, not, _&&_}
 use Prim.Native.Nat.{ℕ, zero, suc, _+_, _-_, _/_, _%_, min}
 use lib.IntN.{ℤ, _-ℤ_, natAbs}
 use Rattle.height.specs.Almanacs.{Almanac, height-at}
 use Rattle.height.specs.Spans.{slope}
+use Rattle.crossing.specs.declared.event.Event.{Event}
+use Rattle.crossing.specs.declared.event.Event.the-variants.{Above, Rise, Set}
 use Rattle.crossing.specs.Above.{over}
 use Rattle.search.specs.Walks.{Course}
 
@@ -24,3 +27,9 @@ next m level end t =
 -- The walk over the ticks below `end`, by the slope of each span.
 abbrev pub over-level : (m : Almanac) (level : ℤ) (end : ℕ) → Course
 over-level m level end = record { so = over m level; stop = end; onto = next m level end }
+
+-- Whether an event happens in a tick, by what is so there and was in the tick before. In tick 0 that is the same tick.
+abbrev pub happens-by : Event → (is was : Bool) → Bool
+happens-by Above is was = is
+happens-by Rise is was = is && not was
+happens-by Set is was = not is && was

@@ -26,7 +26,11 @@ impl<S: Source> Sight<S> {
         ensures few { λ r. ⌜ r .«end» ≤ 4194304 ⌝ }
     {
         let last = ticks(&source);
-        Sight { source, level, end: end.min(last) }
+        Sight {
+            source,
+            level,
+            end: end.min(last),
+        }
     }
 }
 
@@ -62,6 +66,9 @@ pub impl<S: Source> Signal for Sight<S> as SightSignal {
         let height = span.height(u, meter);
         let room = (n - 1 - u).min(self.end - 1 - tick);
         let skipped = skip(height.abs_diff(self.level), span.slope(), room);
-        Evaluation { holds: height >= self.level, till: tick + skipped + 1 }
+        Evaluation {
+            holds: height >= self.level,
+            till: tick + skipped + 1,
+        }
     }
 }

@@ -21,11 +21,11 @@ seen g c =
     let fh : SFits w64 (c .height-height .result) = search needs in
     let fl : SFits w64 (c .args .self .now .level) = search needs in
     sighted m (c .args .self .now .level) (c .height-height .result) (c .args .self .now .end) (c .args .tick) (c .span-ticks-n .result) (c .span-span .result) (c .abs-diff .result) (c .slope .result) (c .min-room .result) (c .skip-skipped .result)
-      (omega (arith, c .span-ticks-n .ensures .coarse)) (c .span-ticks-n .ensures .value) (c .span-span .ensures .value)
-      (height-read m (c .args .tick) (c .span-ticks-n .result) 1024 (c .span-span .result) (c .height-height .result) (c .span-ticks-n .ensures .value) (c .span-ticks-n .ensures .coarse) (c .span-span .ensures .value) (c .height-height .ensures .value))
-      (simp toZ-ofZ at (c .abs-diff .ensures))
-      (c .slope .ensures .value ∙ ap (λ (n : ℕ). slope n (c .span-span .result)) (sym (c .span-ticks-n .ensures .coarse)))
-      (c .min-room .ensures) (c .skip-skipped .ensures .value) (c .pre .inside)
+    (omega (arith, c .span-ticks-n .ensures .coarse)) (c .span-ticks-n .ensures .value) (c .span-span .ensures .value)
+    (height-read m (c .args .tick) (c .span-ticks-n .result) 1024 (c .span-span .result) (c .height-height .result) (c .span-ticks-n .ensures .value) (c .span-ticks-n .ensures .coarse) (c .span-span .ensures .value) (c .height-height .ensures .value))
+    (simp toZ-ofZ at (c .abs-diff .ensures))
+    (c .slope .ensures .value ∙ ap (λ (n : ℕ). slope n (c .span-span .result)) (sym (c .span-ticks-n .ensures .coarse)))
+    (c .min-room .ensures) (c .skip-skipped .ensures .value) (c .pre .inside)
 
 pub returns : need.returns
 returns g c =
