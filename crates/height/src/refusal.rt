@@ -6,8 +6,12 @@ ghost use mathlib.Core.Path.{_≡_};
 pub enum Refusal {
     // A file with a number beyond 2^24, at that index; or one that is not 1 to 4,096 spans of four numbers, at the count of its numbers.
     File(u64),
+    // A line beyond 2^24.
+    Line,
     // A tick that is not in the file.
     Tick(i128),
+    // Something else asked for than above, rising or setting, by its number.
+    Asked(u64),
 }
 
 impl Refusal {
@@ -16,7 +20,9 @@ impl Refusal {
     {
         match self {
             Refusal::File(_) => 1,
+            Refusal::Line => 2,
             Refusal::Tick(_) => 3,
+            Refusal::Asked(_) => 4,
         }
     }
 
@@ -25,7 +31,9 @@ impl Refusal {
     {
         match self {
             Refusal::File(place) => place as i128,
+            Refusal::Line => 0,
             Refusal::Tick(tick) => tick,
+            Refusal::Asked(number) => number as i128,
         }
     }
 }

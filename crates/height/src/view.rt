@@ -1,7 +1,6 @@
 // The check of a file, and what its view answers.
 ghost use Prim.Native.Nat.{_%_, _*_, _+_, _/_, _<_, _^_, _≤_};
-ghost use Rattle.height.specs.Files.{Good, almanac-in, first-beyond};
-ghost use Rattle.height.specs.Views.{almanac-of};
+ghost use Rattle.height.specs.Files.{Good, first-beyond};
 ghost use Rattle.height.specs.declared.refusal.Refusal.the-variants.{File};
 ghost use Rattle.std.specs.Orderings.{Decides};
 ghost use Rattle.std.specs.declared.result.Result.the-variants.{Ok, Err};
@@ -47,7 +46,7 @@ impl<'a> View<'a> {
     // The view of a file that was checked.
     pub fn new(numbers: &'a [i32]) -> View<'a>
         requires { ⌜ Good (now numbers) ⌝ }
-        ensures { λ r. ⌜ almanac-of r ≡ almanac-in 1024 (now (numbers .entry)) ⌝ }
+        ensures { λ r. ⌜ now (r .numbers) ≡ now (numbers .entry) ⌝ }
     {
         View { numbers }
     }
