@@ -1,0 +1,4 @@
+pub mod Backs
+pub mod Figures
+pub mod Signs
+pub mod Splits
