@@ -7,7 +7,7 @@ use lib.ListN.{length}
 use Rattle.height.specs.Almanacs.{ticks}
 use Rattle.height.specs.Files.{almanac-in, Good, first-beyond}
 use Rattle.height.specs.declared.refusal.Refusal.{Refusal}
-use Rattle.height.specs.declared.refusal.Refusal.the-variants.{File, Line, Tick, Asked}
+use Rattle.height.specs.declared.refusal.Refusal.the-variants.{File, Line, Tick, Asked, Text}
 
 -- a line within 2^24 either way
 abbrev pub Line-taken : ℤ → Type 0
@@ -27,3 +27,4 @@ Refuses xs line t what (File p) = (Good xs → ⊥) × (p ≡ first-beyond xs)
 Refuses xs line t what Line = Good xs × (Line-taken line → ⊥)
 Refuses xs line t what (Tick p) = Good xs × Line-taken line × (Tick-taken xs t → ⊥) × (p ≡ pos t)
 Refuses xs line t what (Asked p) = Good xs × Line-taken line × Tick-taken xs t × (what ≤ 2 → ⊥) × (p ≡ what)
+Refuses xs line t what (Text p) = ⊥

@@ -12,6 +12,8 @@ pub enum Refusal {
     Tick(i128),
     // Something else asked for than above, rising or setting, by its number.
     Asked(u64),
+    // A text that cannot be read, by its line.
+    Text(u64),
 }
 
 impl Refusal {
@@ -23,6 +25,7 @@ impl Refusal {
             Refusal::Line => 2,
             Refusal::Tick(_) => 3,
             Refusal::Asked(_) => 4,
+            Refusal::Text(_) => 5,
         }
     }
 
@@ -34,6 +37,7 @@ impl Refusal {
             Refusal::Line => 0,
             Refusal::Tick(tick) => tick,
             Refusal::Asked(number) => number as i128,
+            Refusal::Text(line) => line as i128,
         }
     }
 }
