@@ -1,0 +1,25 @@
+-- The state that a session holds. Assumes nothing: these are definitions.
+use mathlib.Core.List.{List, _++_}
+use mathlib.Core.Path.{_≡_}
+use Prim.Native.Nat.{ℕ}
+use Rattle.std.specs.declared.result.Result.{Result}
+use Rattle.std.specs.declared.result.Result.the-variants.{Ok, Err}
+use Rattle.std.specs.Of.Vec.{vec-items}
+use Rattle.session.specs.declared.session.Session.{Session}
+use Rattle.session.specs.declared.stage.Stage.{Stage}
+use Rattle.session.specs.declared.stage.Stage.the-variants.{Reading, Asking, Refusing, Ended}
+use Rattle.session.specs.Sessions.{Phase, reading, asking, ended, State, Step}
+
+abbrev pub phase-of : Stage → Phase
+phase-of Reading = reading
+phase-of Asking = asking
+phase-of (Refusing p) = asking
+phase-of Ended = ended
+
+abbrev pub state-of : Session → State
+state-of s = record { numbers = vec-items (s .numbers); line = s .line; phase = phase-of (s .stage); at = s .at; refused = s .refused }
+
+-- a step was made: the state is the step's, and its text is at the end of what was written, if there was memory for it
+abbrev pub Makes : {T E : Type 0} → Step → (is : State) → (was now : List ℕ) → Result T E → Type 0
+Makes p is was now (Ok u) = (is ≡ p .state) × (now ≡ was ++ p .text)
+Makes p is was now (Err e) = Unit {0}
