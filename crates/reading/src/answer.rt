@@ -1,0 +1,15 @@
+// What is answered in binary64 numbers.
+
+// A height in thousandths of a degree, and how far off the exact one is at most.
+#[derive(Clone, Copy)]
+pub struct Near {
+    pub height: f64,
+    pub error: f64,
+}
+
+// A body against a line: seen, with how many thousandths of a degree it is above the line; or hidden, below it.
+#[derive(Clone, Copy)]
+pub enum Sighting {
+    Seen(f64),
+    Hidden,
+}
