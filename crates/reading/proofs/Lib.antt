@@ -1,1 +1,3 @@
+pub mod Moments
+pub mod Rises
 pub mod Sightings

@@ -1,2 +1,4 @@
+pub mod Cursors
+pub mod Differences
 pub mod Parts
 pub mod Readings

@@ -1,4 +1,4 @@
-// What is answered in binary64 numbers.
+// What is answered.
 
 // A height in thousandths of a degree, and how far off the exact one is at most.
 #[derive(Clone, Copy)]
@@ -12,4 +12,12 @@ pub struct Near {
 pub enum Sighting {
     Seen(f64),
     Hidden,
+}
+
+// A tick of a file: its number, the height in it, times 2^30, and whether it is the first tick of its span.
+#[derive(Clone, Copy, PartialEq, Eq, Debug)]
+pub struct Moment {
+    pub tick: u64,
+    pub height: i64,
+    pub first: bool,
 }
