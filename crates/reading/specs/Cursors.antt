@@ -1,9 +1,11 @@
 -- What a cursor gives, and how it goes on. Assumes nothing: these are definitions.
+use mathlib.Core.List.{List, map}
 use mathlib.Core.Path.{_≡_}
 use Prim.Native.Nat.{ℕ, _+_, _*_, _%_, _<_}
 use denote.Ref.{now}
 use lib.Dec.{eqb}
 use Rattle.std.specs.declared.option.Option.{Option}
+use Rattle.std.specs.Iters.{counting}
 use Rattle.std.specs.Options.{Cases}
 use Rattle.height.specs.Almanacs.{Almanac, ticks, height-at}
 use Rattle.height.specs.Views.{almanac-of}
@@ -13,6 +15,10 @@ use Rattle.reading.specs.declared.cursor.Cursor.{Cursor}
 -- tick t of an almanac: its number, the height in it, and whether it is the first of its span
 abbrev pub moment : (m : Almanac) (t : ℕ) → Moment
 moment m t = record { tick = t; height = height-at m t; first = eqb (t % m .fine) 0 }
+
+-- what f says of the first n ticks, one after the other
+abbrev pub in-turn : {A : Type 0} (f : ℕ → A) (n : ℕ) → List A
+in-turn f n = map f (counting 0 n)
 
 -- the almanac that a cursor goes through
 abbrev pub almanac-under : Cursor → Almanac
