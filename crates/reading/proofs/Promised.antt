@@ -28,10 +28,11 @@ use Rattle.height.proofs.Ticks.{height-in-span}
 use Rattle.integers.proofs.Size.{size-times-le}
 use Rattle.reading.specs.declared.answer.Moment.{Moment}
 use Rattle.reading.specs.declared.cursor.Cursor.{Cursor}
-use Rattle.reading.specs.Cursors.{Steps, almanac-under, moment, tick-of}
+use Rattle.reading.specs.declared.stretch.Stretch.{Stretch}
+use Rattle.reading.specs.Cursors.{Steps, Steps-in-span, almanac-under, moment, tick-of}
 use Rattle.reading.specs.Differences.{differences-of, onward}
 use Rattle.reading.specs.Parts.{In-file, Part-of}
-use Rattle.reading.specs.Promise.{Small, In-order, Half-a-unit, Of-a-cubic, By-additions, Have-room, Goes-through, Reads-on}
+use Rattle.reading.specs.Promise.{Small, In-order, Half-a-unit, Of-a-cubic, By-additions, Have-room, Goes-through, Goes-through-span, Reads-on}
 use Rattle.reading.proofs.Rises.{first-is, second-is, third-is, first-le, second-le, onward-is}
 
 -- ---- binary64 numbers
@@ -67,36 +68,42 @@ have-room s u w h = (
 )
 
 -- ---- cursors
+
+-- the tick that was given, and those after it
+shown-more : (m k : Almanac) (x : Moment) (t u n j : ℕ) → x ≡ moment m t → k ≡ m → u ≡ t + 1 → n ≡ suc j → map (moment m) (counting t n) ≡ x ∷ map (moment k) (counting u j)
+shown-more m k x t u n j x-is k-is u-is n-is =
+    ap (λ (i : ℕ). map (moment m) (counting t i)) n-is ∙ (λ i. sym x-is i ∷ map (moment (sym k-is i)) (counting (sym u-is i) j))
+
 left-of : Cursor → List Moment
 left-of c = map (moment (almanac-under c)) (counting (tick-of c) (ticks (almanac-under c) - tick-of c))
-
-at-end : (c e : Cursor) → Steps c None e → length (left-of c) ≡ 0
-unfolding left-of
-at-end c e s = length-map-counting (moment (almanac-under c)) (tick-of c) (ticks (almanac-under c) - tick-of c) ∙ omega (arith, s .0)
-
-before-end : (c : Cursor) (x : Moment) (e : Cursor) → Steps c (Some x) e → left-of c ≡ x ∷ left-of e
-unfolding left-of
-before-end c x e s =
-    ap (λ (n : ℕ). map (moment m) (counting t n)) one-less ∙ (λ i. sym (s .1) i ∷ map (moment (same i)) (counting (sym (s .2 .tick) i) k))
-  where
-    m : Almanac
-    m = almanac-under c
-
-    t : ℕ
-    t = tick-of c
-
-    k : ℕ
-    k = ticks (almanac-under e) - tick-of e
-
-    same : almanac-under c ≡ almanac-under e
-    same = ap (almanac-in 1024) (sym (s .2 .file))
-
-    one-less : ticks m - t ≡ suc k
-    one-less = omega (arith, s .0, s .2 .tick, ap ticks same)
 
 pub goes-through : Goes-through
 unfolding left-of
 goes-through c = road-from-shown Steps (λ x. x) left-of at-end before-end c .runs
+  where
+    at-end : (c e : Cursor) → Steps c None e → length (left-of c) ≡ 0
+    at-end c e s = length-map-counting (moment (almanac-under c)) (tick-of c) (ticks (almanac-under c) - tick-of c) ∙ omega (arith, s .0)
+
+    before-end : (c : Cursor) (x : Moment) (e : Cursor) → Steps c (Some x) e → left-of c ≡ x ∷ left-of e
+    before-end c x e s =
+        let same = ap (almanac-in 1024) (s .2 .file) in
+        shown-more (almanac-under c) (almanac-under e) x (tick-of c) (tick-of e) (ticks (almanac-under c) - tick-of c) (ticks (almanac-under e) - tick-of e)
+        (s .1) same (s .2 .tick) (omega (arith, s .0, s .2 .tick, ap ticks same))
+
+left-in-span : Stretch → List Moment
+left-in-span s = map (moment (almanac-under (s .cursor))) (counting (tick-of (s .cursor)) (1024 - s .cursor .at))
+
+pub goes-through-span : Goes-through-span
+unfolding left-in-span
+goes-through-span s = road-from-shown Steps-in-span (λ x. x) left-in-span at-end before-end s .runs
+  where
+    at-end : (s e : Stretch) → Steps-in-span s None e → length (left-in-span s) ≡ 0
+    at-end s e p = length-map-counting (moment (almanac-under (s .cursor))) (tick-of (s .cursor)) (1024 - s .cursor .at) ∙ omega (arith, p)
+
+    before-end : (s : Stretch) (x : Moment) (e : Stretch) → Steps-in-span s (Some x) e → left-in-span s ≡ x ∷ left-in-span e
+    before-end s x e p =
+        shown-more (almanac-under (s .cursor)) (almanac-under (e .cursor)) x (tick-of (s .cursor)) (tick-of (e .cursor)) (1024 - s .cursor .at) (1024 - e .cursor .at)
+        (p .1) (ap (almanac-in 1024) (p .2 .file)) (p .2 .tick) (omega (arith, p .0, p .3))
 
 -- ---- parts
 module _ (xs part : List ℤ) (from end : ℕ) (inside : In-file xs from end) (p : Part-of xs from end part) where

@@ -11,6 +11,7 @@ use Rattle.height.specs.Almanacs.{Almanac, ticks, height-at}
 use Rattle.height.specs.Views.{almanac-of}
 use Rattle.reading.specs.declared.answer.Moment.{Moment}
 use Rattle.reading.specs.declared.cursor.Cursor.{Cursor}
+use Rattle.reading.specs.declared.stretch.Stretch.{Stretch}
 
 -- tick t of an almanac: its number, the height in it, and whether it is the first of its span
 abbrev pub moment : (m : Almanac) (t : ℕ) → Moment
@@ -38,3 +39,9 @@ abbrev pub Steps : Cursor → Option Moment → Cursor → Type 0
 Steps c r e =
     Cases r ((tick-of c ≡ ticks (almanac-under c)) × Stands c (tick-of c) e)
     (λ x. (tick-of c < ticks (almanac-under c)) × (x ≡ moment (almanac-under c) (tick-of c)) × Stands c (tick-of c + 1) e)
+
+-- The same in one span: none behind its last tick.
+abbrev pub Steps-in-span : Stretch → Option Moment → Stretch → Type 0
+Steps-in-span s r e =
+    Cases r (s .cursor .at ≡ 1024)
+    (λ x. (s .cursor .at < 1024) × (x ≡ moment (almanac-under (s .cursor)) (tick-of (s .cursor))) × Stands (s .cursor) (tick-of (s .cursor) + 1) (e .cursor) × (e .cursor .at ≡ s .cursor .at + 1))

@@ -16,7 +16,8 @@ use Rattle.height.specs.Spans.{Within}
 use Rattle.reading.specs.declared.answer.Near.{Near}
 use Rattle.reading.specs.declared.cursor.Cursor.{Cursor}
 use Rattle.reading.specs.declared.differences.Differences.{Differences}
-use Rattle.reading.specs.Cursors.{Steps, almanac-under, moment, tick-of}
+use Rattle.reading.specs.declared.stretch.Stretch.{Stretch}
+use Rattle.reading.specs.Cursors.{Steps, Steps-in-span, almanac-under, moment, tick-of}
 use Rattle.reading.specs.Differences.{differences-of, first, onward, second, third}
 use Rattle.reading.specs.Parts.{In-file, Part-of}
 use Rattle.reading.specs.Readings.{Nears}
@@ -69,6 +70,11 @@ Have-room =
 abbrev pub Goes-through : Type 0
 Goes-through =
     (c : Cursor) → gives Steps (λ x. x) c (map (moment (almanac-under c)) (counting (tick-of c) (ticks (almanac-under c) - tick-of c)))
+
+-- And so do those over one span, to the last tick of the span.
+abbrev pub Goes-through-span : Type 0
+Goes-through-span =
+    (s : Stretch) → gives Steps-in-span (λ x. x) s (map (moment (almanac-under (s .cursor))) (counting (tick-of (s .cursor)) (1024 - s .cursor .at)))
 
 -- ---- parts
 

@@ -7,6 +7,7 @@
 //   differences  a height that goes on from tick to tick by three additions
 //   cursor       a cursor over the ticks of a lent file
 //   steps        its steps, one after the other or set to any tick
+//   stretch      the ticks of one span
 //   heights      all heights of a file
 //   theorems     the promises that hold of all of them, each on a function
 pub mod answer;
@@ -17,4 +18,5 @@ pub mod near;
 pub mod part;
 pub mod sighting;
 pub mod steps;
+pub mod stretch;
 pub mod theorems;

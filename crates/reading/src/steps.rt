@@ -18,7 +18,7 @@ use height::span::Span;
 
 impl<'a> Cursor<'a> {
     // A cursor that stands before a tick of a span.
-    fn before(view: View<'a>, span: u64, at: u64) -> Cursor<'a>
+    pub(super) fn before(view: View<'a>, span: u64, at: u64) -> Cursor<'a>
         requires inside { ⌜ span < length (now (view .numbers)) / 4 ⌝ }
         requires short { ⌜ at < 1024 ⌝ }
         ensures file { λ r. ⌜ now (r .view .numbers) ≡ now (view .entry .numbers) ⌝ }
@@ -62,10 +62,11 @@ impl<'a> Cursor<'a> {
     }
 
     // Gives the tick before which it stands, and goes one tick on.
-    fn give(&mut self) -> Moment
+    pub(super) fn give(&mut self) -> Moment
         requires { ⌜ now self .at < 1024 ⌝ }
         ensures value { λ r. ⌜ r ≡ moment (almanac-of (now (self .entry) .view)) (tick-of (now (self .entry))) ⌝ }
         ensures stands { λ _. ⌜ Stands (now (self .entry)) (tick-of (now (self .entry)) + 1) (now (self .exit)) ⌝ }
+        ensures at { λ _. ⌜ now (self .exit) .at ≡ now (self .entry) .at + 1 ⌝ }
     {
         let moment = Moment {
             tick: self.tick(),

@@ -1,5 +1,5 @@
 // The promises of this layer, each the contract of a function that does nothing else. They speak of the definitions that the code's contracts cite.
-ghost use Rattle.reading.specs.Promise.{By-additions, Goes-through, Half-a-unit, Have-room, In-order, Of-a-cubic, Reads-on};
+ghost use Rattle.reading.specs.Promise.{By-additions, Goes-through, Goes-through-span, Half-a-unit, Have-room, In-order, Of-a-cubic, Reads-on};
 
 // The higher of two ticks has no smaller binary64 number.
 pub fn order_is_kept()
@@ -16,9 +16,9 @@ pub fn differences_make_heights()
     ensures { λ _. ⌜ Of-a-cubic × By-additions × Have-room ⌝ }
 {}
 
-// A cursor gives every tick from where it stands, in order, and then ends.
+// A cursor gives every tick from where it stands, in order, and then ends; over one span too.
 pub fn cursors_go_through()
-    ensures { λ _. ⌜ Goes-through ⌝ }
+    ensures { λ _. ⌜ Goes-through × Goes-through-span ⌝ }
 {}
 
 // A part of a file is read as the file is.

@@ -18,7 +18,7 @@ loop-moment-again c =
     let f : SFits w64 (c .in-Some .moment .height) = search needs in (
       step .2 .file ∙ c .loop-moment .inv .0,
       one-more (almanac-of (c .args .view)) (almanac-of (was .view)) (tick-of was) (tick-of (c .next .last .self)) (vec-items (c .loop-moment .heights)) (vec-items (c .push .last .self)) (c .in-Some .moment .height)
-      (ap (almanac-in 1024) (c .loop-moment .inv .0)) (step .2 .tick) (ap (λ x. x .height) (step .1)) (c .loop-moment .inv .1) (simp toZ-ofZ at (c .in-Continue-push .ensures tt .items)),
+          (ap (almanac-in 1024) (c .loop-moment .inv .0)) (step .2 .tick) (ap (λ x. x .height) (step .1)) (c .loop-moment .inv .1) (simp toZ-ofZ at (c .in-Continue-push .ensures tt .items)),
     )
 
 pub returns-in-Break-push : need.returns-in-Break-push

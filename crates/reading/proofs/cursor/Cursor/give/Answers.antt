@@ -29,4 +29,5 @@ returns c =
     record {
       value = moment-is (almanac-of (v .view)) (v .span) (v .at) (c .tick .result) _ (c .pre) (c .tick .ensures) (toZ-ofZ w64 (v .differences .height) f ∙ ap (λ r. r .height) (v .stands));
       stands = record { file = refl; tick = omega arith };
+      at = refl;
     }
