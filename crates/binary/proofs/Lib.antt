@@ -1,5 +1,5 @@
 mod Leading
 mod Values
 mod Over
-mod Stands
+pub mod Stands
 mod Coded

@@ -3,23 +3,9 @@ use Prim.Native.Nat.{ℕ, _*_, _^_, _≤_, _<_}
 use native.Mathlib.Omega.{arith}
 use lib.Dec.{lit≤}
 use lib.IntN.{ℤ, pos, natAbs, _*ℤ_, _+ℤ_}
-use mir.Syntax.{w32}
-use mir.Val.{toZ, ofZ}
-use Rattle.std.proofs.shelf.Signed.{ints}
-use Rattle.integers.proofs.Size.{size-times-le}
 use Rattle.height.specs.Spans.{height}
-use Rattle.height.proofs.Sums.{square-le, cube-le, sum-fits, sums-fit, sums-code, sums-size}
+use Rattle.height.proofs.Sums.{square-le, cube-le, product, sum-fits, sums-fit, sums-code, sums-size}
 use Rattle.height.proofs.span.Span.height.Needs as need
-
--- a number of size at most 2^25 comes back from its bits
-same : (x : ℤ) → natAbs x ≤ 2 ^ 25 → toZ w32 (ofZ w32 x) ≡ x
-same x h = omega (arith, ints)
-
--- a product is the number's own, and of size at most 2^55
-product : (x r : ℤ) (k : ℕ) → natAbs x ≤ 2 ^ 25 → k ≤ 2 ^ 30 → r ≡ toZ w32 (ofZ w32 x) *ℤ pos k → (r ≡ x *ℤ pos k) × (natAbs r ≤ 2 ^ 55)
-product x r k h l e =
-    let p = e ∙ ap (λ (z : ℤ). z *ℤ pos k) (same x h) in
-    (p, rw p (size-times-le x (pos k) (2 ^ 25) (2 ^ 30) h l))
 
 pub mul-cube : need.mul-cube
 mul-cube c = omega (arith, cube-le (c .args .tick) (c .pre .inside))

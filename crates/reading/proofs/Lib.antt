@@ -1,0 +1,4 @@
+pub mod Moments
+pub mod Promised
+pub mod Rises
+pub mod Sightings

@@ -1,0 +1,39 @@
+// A body seen over a line, or hidden.
+ghost use Prim.Native.Nat.{_*_, _<_, _^_, _≤_};
+ghost use Rattle.height.specs.Almanacs.{height-at, ticks as ticks-of};
+ghost use Rattle.reading.specs.Readings.{Sights, above-line};
+ghost use lib.IntN.{natAbs};
+ghost use mathlib.Core.Path.{_≡_};
+use super::answer::Sighting;
+use binary::nearest_30;
+use height::meter::Meter;
+use height::source::Source;
+use height::source::height;
+
+// What a height is multiplied by.
+const UNIT: i64 = 1 << 30;
+
+// How far the height in a tick is above a line, times 2^30.
+fn above<S: Source>(source: &S, line: i64, tick: u64) -> i64
+    requires inside { ⌜ tick < ticks-of (almanac (now source)) ⌝ }
+    requires small { ⌜ natAbs line ≤ 2 ^ 24 ⌝ }
+    ensures value { λ r. ⌜ r ≡ above-line (height-at (almanac (now (source .entry))) tick) line ⌝ }
+{
+    let mut meter = Meter::new();
+    height(source, tick, &mut meter) - line * UNIT
+}
+
+// Whether a body is seen over a line in a tick, and how high over it. On the line it is seen, at +0.0.
+pub fn sighting<S: Source>(source: &S, line: i64, tick: u64) -> Sighting
+    requires inside { ⌜ tick < ticks-of (almanac (now source)) ⌝ }
+    requires small { ⌜ natAbs line ≤ 2 ^ 24 ⌝ }
+    ensures { λ r. ⌜ Sights (height-at (almanac (now (source .entry))) tick) line r ⌝ }
+{
+    let above = above(source, line, tick);
+    let seen = above >= 0;
+    if seen {
+        Sighting::Seen(nearest_30(above))
+    } else {
+        Sighting::Hidden
+    }
+}
