@@ -5,6 +5,7 @@ use mathlib.Core.Path.{_≡_}
 use Prim.Native.Nat.{ℕ, zero, suc, _-_, _≤_, _<_, min}
 use lib.Dec.{ltb}
 use lib.IntN.{ℤ, pos, _*ℤ_}
+use lib.ListN.{length}
 use Rattle.std.specs.declared.option.Option.{Option}
 use Rattle.std.specs.declared.option.Option.the-variants.{None, Some}
 use Rattle.std.specs.Options.{valueOr}
@@ -16,6 +17,7 @@ use Rattle.height.specs.Almanacs.{Almanac, ticks, height-at, rounded}
 use Rattle.height.specs.Files.{almanac-in, Good}
 use Rattle.height.specs.Refusals.{refusal-number}
 use Rattle.height.specs.Spans.{unit}
+use Rattle.reading.specs.Parts.{Part-of}
 use Rattle.search.specs.Walks.{Steps, Walked, start-for, wanted-for}
 use Rattle.sight.specs.Sights.{over-level}
 use Rattle.height.specs.declared.refusal.Refusal.{Refusal}
@@ -62,3 +64,7 @@ Height-says xs t (At r) = ⊥
 Height-says xs t Never = ⊥
 Height-says xs t (Stands h) = Taken xs (pos 0) t 0 × (h ≡ rounded 1024 (height-at (almanac-in 1024 xs) t))
 Height-says xs t (Refused n) = (e : Refusal) × Refuses xs (pos 0) t 0 e × (n ≡ refusal-number e)
+
+-- a part of the file, by the entry over numbers: none of it where the file is refused
+abbrev pub Spans-says : (xs : List ℤ) (first end : ℕ) (part : List ℤ) → Type 0
+Spans-says xs first end part = (Good xs → Part-of xs first end part) × ((Good xs → ⊥) → length part ≡ 0)

@@ -1,12 +1,13 @@
 // The entries over lent numbers. Each checks the file first, and answers a refusal by its number alone.
 ghost use Prim.Native.Nat.{_*_, _+_, _≤_};
-ghost use Rattle.almanac.specs.Answers.{First-says, Height-says, Says-first, asked};
+ghost use Rattle.almanac.specs.Answers.{First-says, Height-says, Says-first, Spans-says, asked};
 ghost use Rattle.almanac.specs.Refuses.{Refuses, Taken};
 ghost use Rattle.crossing.specs.Above.{above};
 ghost use Rattle.crossing.specs.Events.{event-number};
 ghost use Rattle.height.specs.Almanacs.{height-at, rounded, ticks};
 ghost use Rattle.height.specs.Files.{almanac-in};
 ghost use Rattle.height.specs.declared.refusal.Refusal.the-variants.{Asked};
+ghost use Rattle.reading.specs.Readings.{Nears, Sights};
 ghost use Rattle.std.specs.declared.result.Result.the-variants.{Err, Ok};
 ghost use lib.IntN.{pos};
 ghost use mathlib.Core.Path.{_≡_};
@@ -16,6 +17,8 @@ use super::check::check_tick;
 use crossing::event::Event;
 use height::refusal::Refusal;
 use height::view::check;
+use reading::answer::Near;
+use reading::answer::Sighting;
 
 #[derive(Clone, Copy, PartialEq, Eq, Debug)]
 pub enum When {
@@ -82,4 +85,30 @@ pub fn tick_of(span: u16, tick: u16) -> u64
     ensures { λ r. ⌜ r ≡ 1024 * span + tick ⌝ }
 {
     1024 * span as u64 + tick as u64
+}
+
+// The height in a tick as a binary64 number, and how far off that is at most.
+pub fn near_of(spans: &[i32], tick: u64) -> Result<Near, Refusal>
+    ensures { λ r. ⌜ elim r [ Ok x ↦ Taken (now (spans .entry)) (pos 0) tick 0 × Nears (height-at (almanac-in 1024 (now (spans .entry))) tick) x | Err e ↦ Refuses (now (spans .entry)) (pos 0) tick 0 e ] ⌝ }
+{
+    check(spans)?;
+    Almanac::new(spans).near(tick)
+}
+
+// Whether a body is seen over a line in a tick, and how high over it.
+pub fn sighting_of(spans: &[i32], line: i64, tick: u64) -> Result<Sighting, Refusal>
+    ensures { λ r. ⌜ elim r [ Ok x ↦ Taken (now (spans .entry)) line tick 0 × Sights (height-at (almanac-in 1024 (now (spans .entry))) tick) line x | Err e ↦ Refuses (now (spans .entry)) line tick 0 e ] ⌝ }
+{
+    check(spans)?;
+    Almanac::new(spans).sighting(line, tick)
+}
+
+// The spans from one up to another, without it, as a slice of the lent numbers; none of them if that is no part of the file, or the file is refused.
+pub fn spans_of<'a>(spans: &'a [i32], first: u64, end: u64) -> &'a [i32]
+    ensures { λ r. ⌜ Spans-says (now (spans .entry)) first «end» (now r) ⌝ }
+{
+    match check(spans) {
+        Ok(()) => Almanac::new(spans).part(first, end),
+        Err(_) => &spans[0..0],
+    }
 }

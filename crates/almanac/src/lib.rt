@@ -7,3 +7,4 @@ pub mod almanac;
 pub mod ask;
 pub mod check;
 pub mod entry;
+pub mod read;

@@ -1,18 +1,21 @@
 -- The answers of the almanac are those of the definitions. Assumes nothing.
-use mathlib.Core.Bool.{Bool, true, false, cond}
-use mathlib.Core.List.{List, _++_}
+use mathlib.Core.Bool.{Bool, true, false, cond, _&&_}
+use mathlib.Core.List.{List, [], _∷_, _++_}
 use mathlib.Core.Logic.{_⊎_, inl, inr}
 use mathlib.Core.Path.{_≡_, refl, sym, ap, _∙_}
-use Prim.Native.Nat.{ℕ, zero, suc, _+_, _-_, _≤_, _<_}
+use Prim.Native.Nat.{ℕ, zero, suc, _+_, _*_, _-_, _/_, _≤_, _<_}
 use native.Mathlib.Omega.{arith}
+use lib.Dec.{leb}
 use lib.IntN.{ℤ}
+use lib.ListN.{length, take, drop}
 use Rattle.std.specs.declared.option.Option.{Option}
 use Rattle.std.specs.declared.option.Option.the-variants.{None, Some}
-use Rattle.std.proofs.shelf.Tests.{cases-eq, cases-lt, both-ways, cond-true, cond-false}
+use Rattle.std.proofs.shelf.Tests.{and-from, and-parts, both-ways, cases-eq, cond-true, cond-false, le-leb, leb-true}
 use Rattle.almanac.specs.Answers.{Says-first}
 use Rattle.height.specs.Almanacs.{Almanac, ticks}
+use Rattle.reading.specs.Parts.{Part-of}
 use Rattle.text.specs.Answers.{tick-bytes}
-use Rattle.session.specs.Replies.{Reply, at-tick, for-tick, first-tick, tick-in}
+use Rattle.session.specs.Replies.{at-tick, for-tick, first-tick, natural, part-by, part-in, tick-in}
 
 -- what is called first is what looking at every tick finds
 looked : (f : ℕ → Bool) (t k stop : ℕ) (o : Option ℕ) → t + k ≡ stop → Says-first f t stop o → o ≡ first-tick f t k
@@ -35,3 +38,28 @@ first-said m z f t o was is there inside says written = (
       ∙ ap (λ (x : Option ℕ). was ++ for-tick z (λ u. tick-bytes (first-tick f u (ticks m - u))) x .text) there,
   ap (λ (x : Option ℕ). for-tick z (λ u. tick-bytes (first-tick f u (ticks m - u))) x .refuses) there,
 )
+
+empty : (ys : List ℤ) → length ys ≡ 0 → ys ≡ []
+empty [] h = refl
+empty (y ∷ ys) h = absurd (omega arith)
+
+-- a part of the file, as the definition has it
+pub part-is : (xs : List ℤ) (a b : ℕ) (part : List ℤ) → Part-of xs a b part → part ≡ part-by xs (Some a) (Some b)
+part-is xs a b part p = go (leb a b && leb b (length xs / 4)) refl
+  where
+    go : (t : Bool) → leb a b && leb b (length xs / 4) ≡ t → part ≡ cond t (take (4 * (b - a)) (drop (4 * a) xs)) []
+    go true e = p .taken (leb-true a b (and-parts (leb a b) (leb b (length xs / 4)) e .0), leb-true b (length xs / 4) (and-parts (leb a b) (leb b (length xs / 4)) e .1))
+    go false e = empty part (p .none (λ h. both-ways (leb a b && leb b (length xs / 4)) e (and-from _ _ (le-leb a b (h .0)) (le-leb b (length xs / 4) (h .1)))))
+
+pub no-part : (xs part : List ℤ) → Part-of xs 1 0 part → part ≡ []
+no-part xs part p = part-is xs 1 0 part p
+
+-- over whole numbers, where both are natural, and where one is not
+pub part-there : (xs : List ℤ) (y z : ℤ) (a b : ℕ) (part : List ℤ) → Some a ≡ natural y → Some b ≡ natural z → Part-of xs a b part → part ≡ part-in xs y z
+part-there xs y z a b part p q h = part-is xs a b part h ∙ (λ i. part-by xs (p i) (q i))
+
+pub part-not-first : (xs : List ℤ) (y z : ℤ) (part : List ℤ) → None ≡ natural y → Part-of xs 1 0 part → part ≡ part-in xs y z
+part-not-first xs y z part p h = no-part xs part h ∙ ap (λ (o : Option ℕ). part-by xs o (natural z)) p
+
+pub part-not-end : (xs : List ℤ) (y z : ℤ) (a : ℕ) (part : List ℤ) → Some a ≡ natural y → None ≡ natural z → Part-of xs 1 0 part → part ≡ part-in xs y z
+part-not-end xs y z a part p q h = no-part xs part h ∙ (λ i. part-by xs (p i) (q i))

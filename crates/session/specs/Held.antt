@@ -1,13 +1,18 @@
 -- The state that a session holds. Assumes nothing: these are definitions.
-use mathlib.Core.List.{List, _++_}
+use mathlib.Core.Bool.{Bool, not, cond}
+use mathlib.Core.List.{List, [], _++_}
 use mathlib.Core.Path.{_≡_}
-use Prim.Native.Nat.{ℕ}
+use Prim.Native.Nat.{ℕ, _^_}
+use lib.Dec.{leb}
+use lib.IntN.{ℤ, natAbs}
 use Rattle.std.specs.declared.result.Result.{Result}
 use Rattle.std.specs.declared.result.Result.the-variants.{Ok, Err}
 use Rattle.std.specs.Of.Vec.{vec-items}
 use Rattle.session.specs.declared.session.Session.{Session}
 use Rattle.session.specs.declared.stage.Stage.{Stage}
 use Rattle.session.specs.declared.stage.Stage.the-variants.{Reading, Asking, Refusing, Ended}
+use Rattle.height.specs.declared.refusal.Refusal.the-variants.{Line}
+use Rattle.session.specs.Replies.{refuses-as}
 use Rattle.session.specs.Sessions.{Phase, reading, asking, ended, State, Step}
 
 abbrev pub phase-of : Stage → Phase
@@ -23,3 +28,10 @@ state-of s = record { numbers = vec-items (s .numbers); line = s .line; phase = 
 abbrev pub Makes : {T E : Type 0} → Step → (is : State) → (was now : List ℕ) → Result T E → Type 0
 Makes p is was now (Ok u) = (is ≡ p .state) × (now ≡ was ++ p .text)
 Makes p is was now (Err e) = Unit {0}
+
+-- a new line: the line is in force, or it is refused and the state is as it was
+abbrev pub Sets-line : State → ℤ → State → (was now : List ℕ) → Bool → Type 0
+Sets-line s z t was now b =
+    (b ≡ not (leb (natAbs z) (2 ^ 24)))
+    × (t ≡ cond (leb (natAbs z) (2 ^ 24)) (record { numbers = s .numbers; line = z; phase = s .phase; at = s .at; refused = s .refused }) s)
+    × (now ≡ was ++ cond (leb (natAbs z) (2 ^ 24)) [] (refuses-as Line .text))

@@ -2,7 +2,7 @@
 use mathlib.Core.Bool.{Bool, true, false, cond, _&&_}
 use mathlib.Core.List.{List, [], _∷_, _++_}
 use mathlib.Core.Path.{_≡_}
-use Prim.Native.Nat.{ℕ, zero, suc, _+_, _*_, _-_, min}
+use Prim.Native.Nat.{ℕ, zero, suc, _+_, _*_, _-_, _/_, min}
 use lib.Dec.{leb, ltb}
 use lib.IntN.{ℤ, pos, negsuc, _*ℤ_}
 use lib.ListN.{length, take, drop}
@@ -50,12 +50,19 @@ unfoldable pub first-tick : (f : ℕ → Bool) (t k : ℕ) → Option ℕ
 first-tick f t zero = None
 first-tick f t (suc k) = cond (f t) (Some t) (first-tick f (suc t) k)
 
+-- a whole number that is not below 0
+abbrev pub natural : ℤ → Option ℕ
+natural (pos n) = Some n
+natural (negsuc n) = None
+
 -- the numbers of the spans from a up to b; none where that is no part of the file
+abbrev pub part-by : List ℤ → (a b : Option ℕ) → List ℤ
+part-by xs (Some a) (Some b) = cond (leb a b && leb b (length xs / 4)) (take (4 * (b - a)) (drop (4 * a) xs)) []
+part-by xs (Some a) None = []
+part-by xs None o = []
+
 abbrev pub part-in : List ℤ → (a b : ℤ) → List ℤ
-part-in xs (pos a) (pos b) = cond (leb a b && leb (4 * b) (length xs)) (take (4 * (b - a)) (drop (4 * a) xs)) []
-part-in xs (pos a) (negsuc b) = []
-part-in xs (negsuc a) (pos b) = []
-part-in xs (negsuc a) (negsuc b) = []
+part-in xs a b = part-by xs (natural a) (natural b)
 
 -- the answer over a good file, with the line in force; `line` itself answers nothing
 abbrev pub answer : List ℤ → (line : ℤ) → Order → Reply

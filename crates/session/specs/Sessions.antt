@@ -96,6 +96,15 @@ numbers-in ended s ws = ends s
 abbrev pub numbers-step : State → List (List ℕ) → Step
 numbers-step s ws = numbers-in (s .phase) s ws
 
+-- the first question ends the numbers
+abbrev pub begun-phase : Phase → Phase
+begun-phase reading = asking
+begun-phase asking = asking
+begun-phase ended = ended
+
+abbrev pub begun : State → State
+begun s = record { numbers = s .numbers; line = s .line; phase = begun-phase (s .phase); at = s .at; refused = s .refused }
+
 -- a question that is answered or refused; the line in force stays
 abbrev pub with-reply : State → Reply → Step
 with-reply s r =

@@ -1,19 +1,30 @@
 // What a line of text leads to.
 ghost use Prim.Native.Nat.{ℕ};
-ghost use Rattle.session.specs.Held.{Makes, state-of};
-ghost use Rattle.session.specs.Sessions.{ends, numbers-step, passed, start};
+ghost use Rattle.session.specs.Held.{Makes, Sets-line, phase-of, state-of};
+ghost use Rattle.session.specs.Replies.{Replies, reply as reply-of};
+ghost use Rattle.session.specs.Sessions.{asking, begun, ends, numbers-step, passed, start};
+ghost use Rattle.height.specs.declared.refusal.Refusal.the-variants.{File};
+ghost use Rattle.session.specs.Stages.{stage-fits};
 ghost use Rattle.std.specs.Of.String.{string-bytes};
+ghost use Rattle.std.specs.Of.Vec.{vec-items};
+ghost use Rattle.std.specs.declared.result.Result.the-variants.{Err, Ok};
 ghost use Rattle.words.specs.Words.{words};
+ghost use mathlib.Core.Bool.{true};
 ghost use mathlib.Core.Path.{_≡_};
 use super::memory::NoMemory;
 use super::numbers::push_numbers;
+use super::reply::answer;
 use super::reply::refuse;
 use super::session::Session;
 use super::stage::Stage;
 use super::stage::StageEq;
 use super::stage::StagePartialEq;
+use almanac::almanac::Almanac;
+use almanac::check::check_line;
 use height::refusal::Refusal;
+use height::view::check;
 use std::alloc::Global;
+use text::order::Order;
 
 impl Session {
     // Nothing is read yet: no numbers, the line 0.
@@ -61,5 +72,70 @@ impl Session {
         }
         self.pass();
         Ok(())
+    }
+}
+
+// The place of a refused file.
+fn file_place(refusal: Refusal) -> u64
+    ensures { λ r. ⌜ ((p : ℕ) → refusal ≡ File p → r ≡ p) ⌝ }
+{
+    match refusal {
+        Refusal::File(place) => place,
+        _ => 0,
+    }
+}
+
+// The stage of questions over a file: it is checked here, once.
+fn asking_stage(numbers: &[i32]) -> Stage
+    ensures sound { λ r. ⌜ stage-fits r (now (numbers .entry)) ≡ true ⌝ }
+    ensures phase { λ r. ⌜ phase-of r ≡ asking ⌝ }
+{
+    match check(numbers) {
+        Ok(()) => Stage::Asking,
+        Err(refusal) => Stage::Refusing(file_place(refusal)),
+    }
+}
+
+impl Session {
+    // The first question ends the numbers.
+    fn begin(&mut self)
+        ensures { λ _. ⌜ state-of (now (self .exit)) ≡ begun (state-of (now (self .entry))) ⌝ }
+    {
+        if self.stage == Stage::Reading {
+            self.stage = asking_stage(self.numbers.as_slice());
+        }
+    }
+}
+
+impl Session {
+    // The answer to an order, with the line in force; whether it is a refusal.
+    fn reply(&self, heap: Global, order: Order, out: &mut String) -> Result<bool, NoMemory>
+        requires { ⌜ phase-of (now self .stage) ≡ asking ⌝ }
+        ensures { λ r. ⌜ Replies (string-bytes (now (out .entry))) (reply-of (vec-items (now (self .entry) .numbers)) (now (self .entry) .line) order) (string-bytes (now (out .exit))) r ⌝ }
+    {
+        match self.stage {
+            Stage::Asking => {
+                let almanac = Almanac::new(self.numbers.as_slice());
+                answer(heap, &almanac, self.line, order, out)
+            }
+            Stage::Refusing(place) => refuse(out, Refusal::File(place)),
+            _ => Ok(false),
+        }
+    }
+
+    // A new line, if it is within 2^24; whether it is refused. A refused one changes nothing.
+    fn set_line(&mut self, line: i64, out: &mut String) -> Result<bool, NoMemory>
+        ensures { λ r. ⌜ elim r [ Ok b ↦ Sets-line (state-of (now (self .entry))) line (state-of (now (self .exit))) (string-bytes (now (out .entry))) (string-bytes (now (out .exit))) b | Err e ↦ Unit {0} ] ⌝ }
+    {
+        match check_line(line) {
+            Ok(()) => {
+                self.line = line;
+                Ok(false)
+            }
+            Err(refusal) => {
+                let refused = refuse(out, refusal)?;
+                Ok(refused)
+            }
+        }
     }
 }
