@@ -1,7 +1,7 @@
 -- The lines of a text. Assumes nothing: these are definitions.
 use mathlib.Core.Bool.{Bool, cond}
 use mathlib.Core.List.{List, [], _∷_}
-use Prim.Native.Nat.{ℕ, _-_}
+use Prim.Native.Nat.{ℕ, suc, _-_}
 use lib.Dec.{eqb}
 use lib.ListN.{length, getD, take}
 use Rattle.words.specs.Words.{before-first}
@@ -10,6 +10,11 @@ use Rattle.words.specs.Words.{before-first}
 unfoldable pub lines : List ℕ → List (List ℕ)
 lines [] = []
 lines (b ∷ bs) = cond (eqb b 10) ((b ∷ []) ∷ lines bs) (before-first b (lines bs))
+
+-- how many bytes the first line has, with its end
+unfoldable pub line-len : List ℕ → ℕ
+line-len [] = 0
+line-len (b ∷ bs) = cond (eqb b 10) 1 (suc (line-len bs))
 
 -- whether a text ends with a byte, and what stands before its last byte
 abbrev pub ends-with : ℕ → List ℕ → Bool

@@ -7,11 +7,13 @@
 //   session   what a session holds
 //   reply     the answer to an order
 //   step      what a line of text leads to
+//   run       a whole run
 pub mod kind;
 pub mod line;
 pub mod memory;
 pub mod numbers;
 pub mod reply;
+pub mod run;
 pub mod session;
 pub mod stage;
 pub mod step;

@@ -139,7 +139,13 @@ fn part_of<'a>(almanac: &Almanac<'a>, first: i64, end: i64) -> &'a [i32]
 }
 
 // The answer to an order; whether it is a refusal.
-pub fn answer(heap: Global, almanac: &Almanac, line: i64, order: Order, out: &mut String) -> Result<bool, NoMemory>
+pub fn answer(
+    heap: Global,
+    almanac: &Almanac,
+    line: i64,
+    order: Order,
+    out: &mut String,
+) -> Result<bool, NoMemory>
     requires { ⌜ natAbs line ≤ 2 ^ 24 ⌝ }
     ensures { λ r. ⌜ Replies (string-bytes (now (out .entry))) (answer-of (numbers-of (now (almanac .entry))) line order) (string-bytes (now (out .exit))) r ⌝ }
 {
@@ -154,7 +160,13 @@ pub fn answer(heap: Global, almanac: &Almanac, line: i64, order: Order, out: &mu
 }
 
 // All risings and settings of a span.
-fn answer_span_table(heap: Global, almanac: &Almanac, line: i64, span: i64, out: &mut String) -> Result<bool, NoMemory>
+fn answer_span_table(
+    heap: Global,
+    almanac: &Almanac,
+    line: i64,
+    span: i64,
+    out: &mut String,
+) -> Result<bool, NoMemory>
     requires { ⌜ natAbs line ≤ 2 ^ 24 ⌝ }
     ensures { λ r. ⌜ Replies (string-bytes (now (out .entry))) (answer-of (numbers-of (now (almanac .entry))) line (Table span)) (string-bytes (now (out .exit))) r ⌝ }
 {

@@ -1,16 +1,20 @@
 // What a line of text leads to.
 ghost use Prim.Native.Nat.{ℕ};
-ghost use Rattle.session.specs.Held.{Makes, Sets-line, phase-of, state-of};
+ghost use Rattle.session.specs.Held.{Answers, Makes, Sets-line, phase-of, state-of};
 ghost use Rattle.session.specs.Replies.{Replies, reply as reply-of};
-ghost use Rattle.session.specs.Sessions.{asking, begun, ends, numbers-step, passed, start};
+ghost use Rattle.session.specs.Sessions.{asking, begun, ended, ends, numbers-step, passed, start, step, with-order};
 ghost use Rattle.height.specs.declared.refusal.Refusal.the-variants.{File};
 ghost use Rattle.session.specs.Stages.{stage-fits};
 ghost use Rattle.std.specs.Of.String.{string-bytes};
 ghost use Rattle.std.specs.Of.Vec.{vec-items};
 ghost use Rattle.std.specs.declared.result.Result.the-variants.{Err, Ok};
+ghost use Rattle.text.specs.Orders.{order-of};
 ghost use Rattle.words.specs.Words.{words};
-ghost use mathlib.Core.Bool.{true};
+ghost use mathlib.Core.Bool.{true, _||_};
 ghost use mathlib.Core.Path.{_≡_};
+use super::kind::Kind;
+use super::line::bare;
+use super::line::kind;
 use super::memory::NoMemory;
 use super::numbers::push_numbers;
 use super::reply::answer;
@@ -25,6 +29,7 @@ use height::refusal::Refusal;
 use height::view::check;
 use std::alloc::Global;
 use text::order::Order;
+use text::order::read_order;
 
 impl Session {
     // Nothing is read yet: no numbers, the line 0.
@@ -73,6 +78,13 @@ impl Session {
         self.pass();
         Ok(())
     }
+}
+
+// Whether one of two is so.
+fn either(a: bool, b: bool) -> bool
+    ensures { λ r. ⌜ r ≡ a || b ⌝ }
+{
+    a || b
 }
 
 // The place of a refused file.
@@ -137,5 +149,67 @@ impl Session {
                 Ok(refused)
             }
         }
+    }
+}
+
+impl Session {
+    // A question: what is written for it, and whether it is refused.
+    fn answer(&mut self, heap: Global, line: &[u8], out: &mut String) -> Result<bool, NoMemory>
+        requires { ⌜ phase-of (now self .stage) ≡ asking ⌝ }
+        ensures { λ r. ⌜ elim r [ Ok b ↦ Answers (state-of (now (self .entry))) (order-of (words (now (line .entry)))) (state-of (now (self .exit))) (string-bytes (now (out .entry))) (string-bytes (now (out .exit))) b | Err e ↦ Unit {0} ] ⌝ }
+    {
+        match read_order(line) {
+            None => {
+                let refused = refuse(out, Refusal::Text(self.at))?;
+                Ok(refused)
+            }
+            Some(Order::Line(line)) => {
+                let refused = self.set_line(line, out)?;
+                Ok(refused)
+            }
+            Some(order) => {
+                let refused = self.reply(heap, order, out)?;
+                Ok(refused)
+            }
+        }
+    }
+
+    // A question. The first one ends the numbers.
+    fn ask(&mut self, heap: Global, line: &[u8], out: &mut String) -> Result<(), NoMemory>
+        requires { ⌜ (phase-of (now self .stage) ≡ ended → ⊥) ⌝ }
+        ensures { λ r. ⌜ Makes (with-order (state-of (now (self .entry))) (order-of (words (now (line .entry))))) (state-of (now (self .exit))) (string-bytes (now (out .entry))) (string-bytes (now (out .exit))) r ⌝ }
+    {
+        self.begin();
+        let refused = self.answer(heap, line, out)?;
+        self.pass();
+        self.refused = either(self.refused, refused);
+        Ok(())
+    }
+}
+
+impl Session {
+    // One line of the text, with its end: what is written for it is put at the end of `out`.
+    pub fn feed(&mut self, heap: Global, raw: &[u8], out: &mut String) -> Result<(), NoMemory>
+        ensures { λ r. ⌜ Makes (step (state-of (now (self .entry))) (now (raw .entry))) (state-of (now (self .exit))) (string-bytes (now (out .entry))) (string-bytes (now (out .exit))) r ⌝ }
+    {
+        if self.stage == Stage::Ended {
+            return Ok(());
+        }
+        let line = bare(raw);
+        match kind(line) {
+            Kind::Nothing => {
+                self.pass();
+                Ok(())
+            }
+            Kind::Numbers => self.take_numbers(line, out),
+            Kind::Question => self.ask(heap, line, out),
+        }
+    }
+
+    // Whether anything was refused so far.
+    pub fn refused(&self) -> bool
+        ensures { λ r. ⌜ r ≡ state-of (now (self .entry)) .refused ⌝ }
+    {
+        self.refused
     }
 }
