@@ -5,6 +5,7 @@ ghost use Rattle.session.specs.Replies.{Replies, reply as reply-of};
 ghost use Rattle.session.specs.Sessions.{asking, begun, ended, ends, numbers-step, passed, start, step, with-order};
 ghost use Rattle.height.specs.declared.refusal.Refusal.the-variants.{File};
 ghost use Rattle.session.specs.Stages.{stage-fits};
+ghost use Rattle.std.specs.Orderings.{Decides};
 ghost use Rattle.std.specs.Of.String.{string-bytes};
 ghost use Rattle.std.specs.Of.Vec.{vec-items};
 ghost use Rattle.std.specs.declared.result.Result.the-variants.{Err, Ok};
@@ -204,6 +205,13 @@ impl Session {
             Kind::Numbers => self.take_numbers(line, out),
             Kind::Question => self.ask(heap, line, out),
         }
+    }
+
+    // Whether the text has ended: nothing more is read of it.
+    pub fn has_ended(&self) -> bool
+        ensures { λ r. ⌜ Decides r (state-of (now (self .entry)) .phase ≡ ended) ⌝ }
+    {
+        self.stage == Stage::Ended
     }
 
     // Whether anything was refused so far.
