@@ -53,7 +53,12 @@ fn no_memory(rt: &LibcRuntime) -> Stop {
 }
 
 // Hands each line of an input to the session, and prints what it writes at once.
-fn feed_all<B: BufRead>(rt: &LibcRuntime, session: &mut Session, name: &str, input: &mut B) -> Result<(), Stop> {
+fn feed_all<B: BufRead>(
+    rt: &LibcRuntime,
+    session: &mut Session,
+    name: &str,
+    input: &mut B,
+) -> Result<(), Stop> {
     let heap = rt.alloc();
     let mut stdout = rt.stdout();
     for _ in 0..u64::MAX {
@@ -80,7 +85,12 @@ fn feed_all<B: BufRead>(rt: &LibcRuntime, session: &mut Session, name: &str, inp
 // One named input: a file, or standard input for `-`.
 fn feed_named(rt: &LibcRuntime, session: &mut Session, name: &str) -> Result<(), Stop> {
     if name == "-" {
-        return feed_all(rt, session, "standard input", &mut BufReader::new(rt.stdin()));
+        return feed_all(
+            rt,
+            session,
+            "standard input",
+            &mut BufReader::new(rt.stdin()),
+        );
     }
     match fs::open(rt, name) {
         Ok(file) => feed_all(rt, session, name, &mut BufReader::new(file)),
@@ -110,7 +120,11 @@ fn run(rt: &LibcRuntime, names: &[String]) -> Result<(), Stop> {
     for name in names {
         feed_named(rt, &mut session, name.as_str())?;
     }
-    if session.refused() { Err(Stop::Refused) } else { Ok(()) }
+    if session.refused() {
+        Err(Stop::Refused)
+    } else {
+        Ok(())
+    }
 }
 
 // What is named: the arguments without the program's own name.
