@@ -6,9 +6,9 @@ pub mod random;
 #[cfg(test)]
 mod tests {
     use super::heights::HEIGHTS;
+    use super::heights::WIDTH;
     use super::random::Dice;
     use almanac::almanac::Almanac;
-    use almanac::ask::First;
     use almanac::entry::When;
     use almanac::entry::WhenDebug;
     use almanac::entry::WhenEq;
@@ -53,13 +53,32 @@ mod tests {
         Almanac::new(numbers).exact(tick)
     }
 
+    // One case of the table.
+    fn height_case(case: &[i64]) -> Result<(), Fail> {
+        check(case.len() == WIDTH)?;
+        let numbers = [
+            narrow(case[0])?,
+            narrow(case[1])?,
+            narrow(case[2])?,
+            narrow(case[3])?,
+        ];
+        let tick = case[4].unsigned_abs();
+        check_eq(exact(&numbers, tick), Ok(case[5]))?;
+        check_eq(rounded(case[5]), case[6])?;
+        check_eq(height_of(&numbers, tick), When::Stands(case[6]))
+    }
+
+    fn narrow(x: i64) -> Result<i32, Fail> {
+        match i32::try_from(x) {
+            Ok(x) => Ok(x),
+            Err(_) => Err(Fail::new("a number of the table is too large")),
+        }
+    }
+
     #[test]
     fn heights() -> Result<(), Fail> {
-        for (a, b, c, d, tick, height, whole) in HEIGHTS {
-            let numbers = [a, b, c, d];
-            check_eq(exact(&numbers, tick), Ok(height))?;
-            check_eq(rounded(height), whole)?;
-            check_eq(height_of(&numbers, tick), When::Stands(whole))?;
+        for case in HEIGHTS.chunks_exact(WIDTH) {
+            height_case(case)?;
         }
         Ok(())
     }
