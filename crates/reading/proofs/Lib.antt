@@ -1,4 +1,3 @@
 pub mod Moments
 pub mod Promised
 pub mod Rises
-pub mod Sightings

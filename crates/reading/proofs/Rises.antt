@@ -88,9 +88,6 @@ three-code x y z p q r = omega (arith, ints)
 pub alone : (x : ℤ) → natAbs x ≤ 2 ^ 57 → toZ w64 (ofZ w64 x) ≡ x
 alone x p = omega (arith, ints)
 
-pub sum-code : (x y : ℤ) → SFits w64 x → SFits w64 y → natAbs (x +ℤ y) < 2 ^ 63 → toZ w64 (ofZ w64 (toZ w64 (ofZ w64 x) +ℤ toZ w64 (ofZ w64 y))) ≡ x +ℤ y
-sum-code x y f g h = omega (arith, ints)
-
 -- ---- one tick on
 pub onward-is : (n : ℕ) (s : Span) (u : ℕ) → onward (differences-of n s u) ≡ differences-of n s (u + 1)
 unfolding first second third

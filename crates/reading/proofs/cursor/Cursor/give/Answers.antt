@@ -20,7 +20,8 @@ onward-self-requires c κs =
 pub ghost-self : need.ghost-self
 ghost-self c =
     let v = c .args .self .now in
-    (v .inside, (omega (arith, c .pre), (c .onward-self .ensures ∙ ap onward (v .stands) ∙ onward-is 1024 (span-at (v .view .numbers .now) (v .span)) (v .at), tt)))
+    let e = c .onward-self .ensures in
+    (v .inside, (omega (arith, c .pre), ((λ i. record { height = e .height i; first = e .first i; second = e .second i; third = e .third i }) ∙ ap onward (v .stands) ∙ onward-is 1024 (span-at (v .view .numbers .now) (v .span)) (v .at), tt)))
 
 pub returns : need.returns
 returns c =
