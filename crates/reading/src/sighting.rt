@@ -1,5 +1,5 @@
 // A body seen over a line, or hidden.
-ghost use Prim.Native.Nat.{_*_, _<_, _^_, _≤_};
+ghost use Prim.Native.Nat.{_<_, _^_, _≤_};
 ghost use Rattle.binary.specs.Nearest.{nearest-over};
 ghost use Rattle.binary.specs.Promise.{Plain};
 ghost use Rattle.height.specs.Almanacs.{height-at, ticks as ticks-of};

@@ -58,17 +58,19 @@ fn check_moment(view: View, moment: Moment, tick: u64) -> Result<(), Fail> {
     check_eq(moment.first, tick % Span::TICKS == 0)
 }
 
-// Goes through a file twice: tick by tick, and span by span.
-fn check_through(numbers: &[i32]) -> Result<(), Fail> {
-    check_file(numbers)?;
-    let view = View::new(numbers);
+// Goes through a file tick by tick.
+fn check_ticks(view: View) -> Result<(), Fail> {
     let mut tick: u64 = 0;
     for moment in Cursor::new(view) {
         check_moment(view, moment, tick)?;
         tick = tick.wrapping_add(1);
     }
-    check_eq(tick, ticks(&view))?;
-    tick = 0;
+    check_eq(tick, ticks(&view))
+}
+
+// Goes through a file span by span.
+fn check_spans(view: View) -> Result<(), Fail> {
+    let mut tick: u64 = 0;
     for span in 0..view.spans() {
         for moment in Stretch::new(view, span) {
             check_moment(view, moment, tick)?;
@@ -76,6 +78,13 @@ fn check_through(numbers: &[i32]) -> Result<(), Fail> {
         }
     }
     check_eq(tick, ticks(&view))
+}
+
+fn check_through(numbers: &[i32]) -> Result<(), Fail> {
+    check_file(numbers)?;
+    let view = View::new(numbers);
+    check_ticks(view)?;
+    check_spans(view)
 }
 
 #[test]

@@ -181,30 +181,37 @@ static ROWS: [(u64, i64, u64, u64); 6] = [
     (3071, -3500, 0xc0ab_58f8_c78f_a000, 0x3d50_0000_0000_0000),
 ];
 
+// The height in a tick has these bits, and its error those.
+fn check_near(view: View, tick: u64, height: u64, error: u64) -> Result<(), Fail> {
+    check(tick < ticks(&view))?;
+    let near = near(&view, tick);
+    check_eq(f64_to_bits_with_nan(near.height), height)?;
+    check_eq(f64_to_bits_with_nan(near.error), error)
+}
+
 #[test]
 fn heights_are_nearest() -> Result<(), Fail> {
     for (span, tick, height, error) in CASES.iter() {
         check_file(span)?;
-        let view = View::new(span);
-        check(*tick < ticks(&view))?;
-        let near = near(&view, *tick);
-        check_eq(f64_to_bits_with_nan(near.height), *height)?;
-        check_eq(f64_to_bits_with_nan(near.error), *error)?;
+        check_near(View::new(span), *tick, *height, *error)?;
     }
     Ok(())
+}
+
+// The height in a tick is so many whole thousandths.
+fn check_rounded(view: View, tick: u64, thousandths: i64) -> Result<(), Fail> {
+    check(tick < ticks(&view))?;
+    let mut meter = Meter::new();
+    check_eq(rounded(height(&view, tick, &mut meter)), thousandths)
 }
 
 #[test]
 fn three_spans_have_these_heights() -> Result<(), Fail> {
     check_file(&THREE)?;
     let view = View::new(&THREE);
-    for (tick, thousandths, bits, error) in ROWS.iter() {
-        check(*tick < ticks(&view))?;
-        let near = near(&view, *tick);
-        let mut meter = Meter::new();
-        check_eq(rounded(height(&view, *tick, &mut meter)), *thousandths)?;
-        check_eq(f64_to_bits_with_nan(near.height), *bits)?;
-        check_eq(f64_to_bits_with_nan(near.error), *error)?;
+    for (tick, thousandths, height, error) in ROWS.iter() {
+        check_rounded(view, *tick, *thousandths)?;
+        check_near(view, *tick, *height, *error)?;
     }
     Ok(())
 }

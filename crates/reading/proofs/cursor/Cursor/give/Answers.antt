@@ -1,13 +1,12 @@
 use borrow.Author.Needs.{needs}
-use mathlib.Core.Path.{_≡_, refl, sym, ap, _∙_, subst}
-use Prim.Native.Nat.{_^_}
+use mathlib.Core.Path.{refl, ap, _∙_}
 use native.Mathlib.Omega.{arith}
 use mir.Syntax.{w64}
 use mir.Val.{SFits}
 use Rattle.std.proofs.shelf.Signed.{toZ-ofZ}
 use Rattle.height.specs.Files.{span-at}
 use Rattle.height.specs.Views.{almanac-of}
-use Rattle.reading.specs.Differences.{onward, Room}
+use Rattle.reading.specs.Differences.{onward}
 use Rattle.reading.proofs.Moments.{small, moment-is}
 use Rattle.reading.proofs.Rises.{onward-is, room}
 use Rattle.reading.proofs.cursor.Cursor.give.Needs as need
