@@ -1,4 +1,4 @@
 pub mod Moments
 pub mod Promised
 pub mod Rises
-pub mod Sightings
+pub mod Sums

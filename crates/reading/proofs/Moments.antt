@@ -1,7 +1,7 @@
 -- What a cursor gives. Assumes nothing.
 use mathlib.Core.List.{List, [], _∷_, _++_}
-use mathlib.Core.Path.{_≡_, refl, sym, ap, _∙_, subst}
-use Prim.Native.Nat.{ℕ, _+_, _*_, _/_, _%_, _^_, _≤_, _<_}
+use mathlib.Core.Path.{_≡_, sym, ap, _∙_}
+use Prim.Native.Nat.{ℕ, _+_, _*_, _/_, _^_, _≤_, _<_}
 use native.Mathlib.Omega.{arith}
 use lib.Arith.{digits-mod}
 use lib.Dec.{eqb}
@@ -9,7 +9,7 @@ use lib.IntN.{ℤ, pos, natAbs}
 use lib.ListN.{length, getD}
 use Rattle.std.proofs.shelf.Counted.{map-counting-more}
 use Rattle.height.specs.Almanacs.{Almanac, height-at}
-use Rattle.height.specs.Files.{span-at, almanac-in}
+use Rattle.height.specs.Files.{span-at}
 use Rattle.height.specs.Spans.{height, Within}
 use Rattle.height.proofs.Ticks.{height-in-span}
 use Rattle.reading.specs.declared.answer.Moment.{Moment}

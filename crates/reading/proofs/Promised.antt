@@ -1,38 +1,36 @@
 -- The statements of specs/Promise.antt hold. Assumes nothing.
-use mathlib.Core.Bool.{true}
-use mathlib.Core.List.{List, [], _∷_, map}
-use mathlib.Core.Path.{_≡_, refl, sym, ap, ap₂, _∙_, subst}
+use mathlib.Core.List.{List, _∷_, map}
+use mathlib.Core.Path.{_≡_, refl, sym, ap, _∙_, subst}
 use Prim.Native.Nat.{ℕ, zero, suc, _+_, _*_, _-_, _/_, _%_, _^_, _≤_, _<_}
 use native.Mathlib.Nat.{div-add-mod', mod-lt, div-lt-iff-lt-mul, lt-of-le-of-lt}
 use native.Mathlib.Numerals.{add-one}
 use native.Mathlib.Omega.{arith}
 use lib.Dec.{lit<, lit≤}
 use lib.IntN.{ℤ, pos, natAbs}
-use lib.Ieee.{Float, le}
 use lib.ListN.{length, getD, take, drop, length-take, length-drop}
 use lib.Seq.{getD-drop, getD-take}
-use borrow.Author.Differences.{ints}
+use lib.Signed.{_<ℤ_}
 use Rattle.std.specs.declared.option.Option.the-variants.{None, Some}
 use Rattle.std.specs.Iters.{counting}
 use Rattle.std.proofs.shelf.Counted.{length-map-counting}
 use Rattle.std.proofs.shelf.Roads.{road-from-shown}
-use Rattle.binary.specs.Nearest.{nearest-over, half-place}
-use Rattle.binary.specs.Promise.{half-unit}
-use Rattle.binary.proofs.Stands.{in-order-stands, half-a-unit-stands}
+use Rattle.binary.specs.Nearest.{nearest-over}
+use Rattle.binary.proofs.Stands.{in-order-stands, half-a-unit-stands, zero-stands}
 use Rattle.height.specs.declared.span.Span.{Span}
 use Rattle.height.specs.Almanacs.{Almanac, ticks, height-at}
 use Rattle.height.specs.Files.{almanac-in, span-at}
-use Rattle.height.specs.Spans.{height, Within}
+use Rattle.height.specs.Spans.{height}
 use Rattle.height.proofs.Steps.{height-le}
 use Rattle.height.proofs.Ticks.{height-in-span}
 use Rattle.integers.proofs.Size.{size-times-le}
 use Rattle.reading.specs.declared.answer.Moment.{Moment}
+use Rattle.reading.specs.declared.answer.Sighting.the-variants.{Seen, Hidden}
 use Rattle.reading.specs.declared.cursor.Cursor.{Cursor}
 use Rattle.reading.specs.declared.stretch.Stretch.{Stretch}
 use Rattle.reading.specs.Cursors.{Steps, Steps-in-span, almanac-under, moment, tick-of}
 use Rattle.reading.specs.Differences.{differences-of, onward}
 use Rattle.reading.specs.Parts.{In-file, Part-of}
-use Rattle.reading.specs.Promise.{Small, In-order, Half-a-unit, Of-a-cubic, By-additions, Have-room, Goes-through, Goes-through-span, Reads-on}
+use Rattle.reading.specs.Promise.{Small, In-order, Half-a-unit, At-zero, On-the-line, Of-a-cubic, By-additions, Have-room, Goes-through, Goes-through-span, Reads-on}
 use Rattle.reading.proofs.Rises.{first-is, second-is, third-is, first-le, second-le, onward-is}
 
 -- ---- binary64 numbers
@@ -51,6 +49,13 @@ in-order m t u p q s h k near-t near-u l =
 
 pub half-a-unit : Half-a-unit
 half-a-unit m t p s h near-t = rw (near-t .height, near-t .error) (half-a-unit-stands 30 (height-at m t) (lit≤ tt) (far m t s h))
+
+pub at-zero : At-zero
+at-zero p near-0 = (near-0 .height ∙ zero-stands 30 (lit≤ tt) .0, near-0 .error ∙ zero-stands 30 (lit≤ tt) .1)
+
+pub on-the-line : On-the-line
+on-the-line h line (Seen x) s e = ap Seen (s .1 ∙ ap (nearest-over 30) e ∙ zero-stands 30 (lit≤ tt) .0)
+on-the-line h line Hidden s e = absurd (subst (λ (z : ℤ). z <ℤ pos 0) e s .lt)
 
 -- ---- differences
 pub of-a-cubic : Of-a-cubic
@@ -98,7 +103,7 @@ unfolding left-in-span
 goes-through-span s = road-from-shown Steps-in-span (λ x. x) left-in-span at-end before-end s .runs
   where
     at-end : (s e : Stretch) → Steps-in-span s None e → length (left-in-span s) ≡ 0
-    at-end s e p = length-map-counting (moment (almanac-under (s .cursor))) (tick-of (s .cursor)) (1024 - s .cursor .at) ∙ omega (arith, p)
+    at-end s e p = length-map-counting (moment (almanac-under (s .cursor))) (tick-of (s .cursor)) (1024 - s .cursor .at) ∙ omega (arith, p .0)
 
     before-end : (s : Stretch) (x : Moment) (e : Stretch) → Steps-in-span s (Some x) e → left-in-span s ≡ x ∷ left-in-span e
     before-end s x e p =

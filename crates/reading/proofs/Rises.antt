@@ -1,13 +1,10 @@
 -- The differences of a height in closed form, over n ticks a span, and how large they get. Assumes nothing.
-use mathlib.Core.Path.{_≡_, refl, sym, ap, ap₂, _∙_}
+use mathlib.Core.Path.{_≡_, sym, ap, _∙_}
 use Prim.Native.Nat.{ℕ, _+_, _*_, _^_, _≤_, _<_}
 use native.Mathlib.Nat.{mul-le-mul, mul-le-mul-left}
 use native.Mathlib.Omega.{arith}
-use lib.Dec.{lit≤}
 use lib.IntN.{ℤ, pos, natAbs, _+ℤ_, _-ℤ_, _*ℤ_}
 use borrow.Author.Differences.{up, down, ints}
-use mir.Syntax.{w64}
-use mir.Val.{SFits, toZ, ofZ}
 use Rattle.height.specs.declared.span.Span.{Span}
 use Rattle.height.specs.Spans.{height, Within}
 use Rattle.height.proofs.Steps.{cubic, height-is, height-le}
@@ -75,48 +72,34 @@ module _ (n : ℕ) (s : Span) (u most : ℕ) (w : Within most s) (h : u ≤ n) w
       let d = size-times-le (s .d) (pos (6 * (u + 1))) most (6 * (n + 1)) (w .d) (omega arith) in
       rw (second-is n s u) (omega (arith, ints))
 
--- ---- sums of numbers of size at most 2^55, as the code has them
-pub two-code : (x y : ℤ) → natAbs x ≤ 2 ^ 55 → natAbs y ≤ 2 ^ 55 → toZ w64 (ofZ w64 (toZ w64 (ofZ w64 x) +ℤ toZ w64 (ofZ w64 y))) ≡ x +ℤ y
-two-code x y p q = omega (arith, ints)
+-- ---- one tick on, each by an addition; the third stays
+back : (x y : ℤ) → x +ℤ (y -ℤ x) ≡ y
+back x y = omega (arith, ints)
 
-pub three-fit : (x y z : ℤ) → natAbs x ≤ 2 ^ 55 → natAbs y ≤ 2 ^ 55 → natAbs z ≤ 2 ^ 55 → SFits w64 (toZ w64 (ofZ w64 (toZ w64 (ofZ w64 x) +ℤ toZ w64 (ofZ w64 y))) +ℤ toZ w64 (ofZ w64 z))
-three-fit x y z p q r = omega (arith, ints)
+module _ (n : ℕ) (s : Span) (u : ℕ) where
+  pub height-on : height n s u +ℤ first n s u ≡ height n s (u + 1)
+  unfolding first
+  height-on = back (height n s u) (height n s (u + 1))
 
-pub three-code : (x y z : ℤ) → natAbs x ≤ 2 ^ 55 → natAbs y ≤ 2 ^ 55 → natAbs z ≤ 2 ^ 55 → toZ w64 (ofZ w64 (toZ w64 (ofZ w64 (toZ w64 (ofZ w64 x) +ℤ toZ w64 (ofZ w64 y))) +ℤ toZ w64 (ofZ w64 z))) ≡ x +ℤ y +ℤ z
-three-code x y z p q r = omega (arith, ints)
+  pub first-on : first n s u +ℤ second n s u ≡ first n s (u + 1)
+  unfolding second
+  first-on = back (first n s u) (first n s (u + 1))
 
-pub alone : (x : ℤ) → natAbs x ≤ 2 ^ 57 → toZ w64 (ofZ w64 x) ≡ x
-alone x p = omega (arith, ints)
+  pub second-on : second n s u +ℤ third n s u ≡ second n s (u + 1)
+  unfolding third
+  second-on = back (second n s u) (second n s (u + 1))
 
-pub sum-code : (x y : ℤ) → SFits w64 x → SFits w64 y → natAbs (x +ℤ y) < 2 ^ 63 → toZ w64 (ofZ w64 (toZ w64 (ofZ w64 x) +ℤ toZ w64 (ofZ w64 y))) ≡ x +ℤ y
-sum-code x y f g h = omega (arith, ints)
+  pub third-on : third n s u ≡ third n s (u + 1)
+  third-on = third-is n s u ∙ sym (third-is n s (u + 1))
 
--- ---- one tick on
-pub onward-is : (n : ℕ) (s : Span) (u : ℕ) → onward (differences-of n s u) ≡ differences-of n s (u + 1)
-unfolding first second third
-onward-is n s u = (λ i. record { height = height-on i; first = first-on i; second = second-on i; third = third-on i })
-  where
-    back : (x y : ℤ) → x +ℤ (y -ℤ x) ≡ y
-    back x y = omega (arith, ints)
-
-    height-on : height n s u +ℤ first n s u ≡ height n s (u + 1)
-    height-on = back (height n s u) (height n s (u + 1))
-
-    first-on : first n s u +ℤ second n s u ≡ first n s (u + 1)
-    first-on = back (first n s u) (first n s (u + 1))
-
-    second-on : second n s u +ℤ third n s u ≡ second n s (u + 1)
-    second-on = back (second n s u) (second n s (u + 1))
-
-    third-on : third n s u ≡ third n s (u + 1)
-    third-on = third-is n s u ∙ sym (third-is n s (u + 1))
+  pub onward-is : onward (differences-of n s u) ≡ differences-of n s (u + 1)
+  onward-is = (λ i. record { height = height-on i; first = first-on i; second = second-on i; third = third-on i })
 
 -- at 1,024 ticks the three sums have room
 pub room : (s : Span) (u : ℕ) → Within (2 ^ 25) s → u < 1024 → Room (differences-of 1024 s u)
 room s u w h =
-    let e = onward-is 1024 s u in
     record {
-      height = omega (arith, ap (λ r. natAbs (r .height)) e, height-le 1024 s (u + 1) (2 ^ 25) w (omega arith));
-      first = omega (arith, ap (λ r. natAbs (r .first)) e, first-le 1024 s (u + 1) (2 ^ 25) w (omega arith));
-      second = omega (arith, ap (λ r. natAbs (r .second)) e, second-le 1024 s (u + 1) (2 ^ 25) w (omega arith));
+      height = omega (arith, ap natAbs (height-on 1024 s u), height-le 1024 s (u + 1) (2 ^ 25) w (omega arith));
+      first = omega (arith, ap natAbs (first-on 1024 s u), first-le 1024 s (u + 1) (2 ^ 25) w (omega arith));
+      second = omega (arith, ap natAbs (second-on 1024 s u), second-le 1024 s (u + 1) (2 ^ 25) w (omega arith));
     }

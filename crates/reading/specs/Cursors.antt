@@ -40,8 +40,8 @@ Steps c r e =
     Cases r ((tick-of c ≡ ticks (almanac-under c)) × Stands c (tick-of c) e)
     (λ x. (tick-of c < ticks (almanac-under c)) × (x ≡ moment (almanac-under c) (tick-of c)) × Stands c (tick-of c + 1) e)
 
--- The same in one span: none behind its last tick.
+-- The same in one span, behind whose last tick it stays.
 abbrev pub Steps-in-span : Stretch → Option Moment → Stretch → Type 0
 Steps-in-span s r e =
-    Cases r (s .cursor .at ≡ 1024)
+    Cases r ((s .cursor .at ≡ 1024) × Stands (s .cursor) (tick-of (s .cursor)) (e .cursor))
     (λ x. (s .cursor .at < 1024) × (x ≡ moment (almanac-under (s .cursor)) (tick-of (s .cursor))) × Stands (s .cursor) (tick-of (s .cursor) + 1) (e .cursor) × (e .cursor .at ≡ s .cursor .at + 1))

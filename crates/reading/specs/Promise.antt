@@ -1,10 +1,10 @@
 -- What is promised of readings. Each is a statement; a function of the module `theorems` has it as its contract. Assumes nothing.
-use mathlib.Core.Bool.{true}
+use mathlib.Core.Bool.{false, true}
 use mathlib.Core.List.{List, map}
 use mathlib.Core.Path.{_≡_}
 use Prim.Native.Nat.{ℕ, zero, suc, _+_, _*_, _-_, _/_, _^_, _≤_, _<_}
 use lib.IntN.{ℤ, pos, _+ℤ_, _*ℤ_, natAbs}
-use lib.Ieee.{le}
+use lib.Ieee.{fin, le}
 use lib.ListN.{length}
 use lib.Signed.{_≤ℤ_}
 use Rattle.std.specs.Iters.{counting, gives}
@@ -14,20 +14,22 @@ use Rattle.height.specs.Almanacs.{Almanac, ticks, height-at}
 use Rattle.height.specs.Files.{almanac-in}
 use Rattle.height.specs.Spans.{Within}
 use Rattle.reading.specs.declared.answer.Near.{Near}
+use Rattle.reading.specs.declared.answer.Sighting.{Sighting}
+use Rattle.reading.specs.declared.answer.Sighting.the-variants.{Seen}
 use Rattle.reading.specs.declared.cursor.Cursor.{Cursor}
 use Rattle.reading.specs.declared.differences.Differences.{Differences}
 use Rattle.reading.specs.declared.stretch.Stretch.{Stretch}
 use Rattle.reading.specs.Cursors.{Steps, Steps-in-span, almanac-under, moment, tick-of}
 use Rattle.reading.specs.Differences.{differences-of, first, onward, second, third}
 use Rattle.reading.specs.Parts.{In-file, Part-of}
-use Rattle.reading.specs.Readings.{Nears}
+use Rattle.reading.specs.Readings.{Nears, Sights, above-line}
 
 -- What every source is: 1,024 ticks a span, and spans of numbers within 2^25.
 pub record Small (m : Almanac) : Type 0 where
   pub coarse : m .fine ≡ 1024
   pub spans : (i : ℕ) → i < m .spans → Within (2 ^ 25) (m .span i)
 
--- ---- binary64 numbers of heights
+-- ---- binary64 numbers
 
 -- Order is kept: the higher of two ticks has no smaller number.
 abbrev pub In-order : Type 0
@@ -38,6 +40,14 @@ In-order =
 -- The error is no more than half a unit in the last place of the number.
 abbrev pub Half-a-unit : Type 0
 Half-a-unit = (m : Almanac) (t : ℕ) (p : Near) → Small m → t < ticks m → Nears (height-at m t) p → le (p .error) (half-unit (p .height)) ≡ true
+
+-- A height of 0 is +0.0, with no error.
+abbrev pub At-zero : Type 0
+At-zero = (p : Near) → Nears (pos 0) p → (p .height ≡ fin false 0 (pos 0)) × (p .error ≡ fin false 0 (pos 0))
+
+-- On the line a body is seen, at +0.0.
+abbrev pub On-the-line : Type 0
+On-the-line = (h line : ℤ) (r : Sighting) → Sights h line r → above-line h line ≡ pos 0 → r ≡ Seen (fin false 0 (pos 0))
 
 -- ---- differences, for every number n of ticks that a span has
 

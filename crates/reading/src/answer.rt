@@ -15,7 +15,7 @@ pub enum Sighting {
 }
 
 // A tick of a file: its number, the height in it, times 2^30, and whether it is the first tick of its span.
-#[derive(Clone, Copy, PartialEq, Eq, Debug)]
+#[derive(Clone, Copy)]
 pub struct Moment {
     pub tick: u64,
     pub height: i64,

@@ -43,7 +43,10 @@ impl Differences {
     // One tick on: three additions.
     pub(super) fn onward(self) -> Differences
         requires { ⌜ Room self ⌝ }
-        ensures { λ r. ⌜ r ≡ onward-of self ⌝ }
+        ensures height { λ r. ⌜ r .height ≡ onward-of self .height ⌝ }
+        ensures first { λ r. ⌜ r .first ≡ onward-of self .first ⌝ }
+        ensures second { λ r. ⌜ r .second ≡ onward-of self .second ⌝ }
+        ensures third { λ r. ⌜ r .third ≡ onward-of self .third ⌝ }
     {
         Differences {
             height: self.height + self.first,

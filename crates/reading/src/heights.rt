@@ -1,5 +1,4 @@
 // All heights of a file.
-ghost use Prim.Native.Nat.{_*_};
 ghost use Rattle.height.specs.Almanacs.{height-at, ticks as ticks-of};
 ghost use Rattle.height.specs.Views.{almanac-of};
 ghost use Rattle.reading.specs.Cursors.{in-turn};

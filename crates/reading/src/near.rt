@@ -1,5 +1,5 @@
 // A height as a binary64 number.
-ghost use Prim.Native.Nat.{_*_, _<_};
+ghost use Prim.Native.Nat.{_<_};
 ghost use Rattle.height.specs.Almanacs.{height-at, ticks as ticks-of};
 ghost use Rattle.reading.specs.Readings.{Nears};
 use super::answer::Near;

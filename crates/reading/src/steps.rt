@@ -1,8 +1,8 @@
 // The steps of a cursor: from tick to tick by three additions, and anew with each span.
-ghost use Prim.Native.Nat.{_*_, _+_, _-_, _/_, _<_, _≤_};
+ghost use Prim.Native.Nat.{_+_, _-_, _/_, _<_};
 ghost use Rattle.height.specs.Almanacs.{ticks as ticks-of};
 ghost use Rattle.height.specs.Views.{almanac-of};
-ghost use Rattle.reading.specs.Cursors.{Steps, Stands, moment, tick-of};
+ghost use Rattle.reading.specs.Cursors.{Stands, Steps, moment, tick-of};
 ghost use lib.Dec.{ltb};
 ghost use lib.ListN.{length};
 ghost use mathlib.Core.Bool.{cond};

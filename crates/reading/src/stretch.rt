@@ -1,5 +1,5 @@
 // The ticks of one span, one after the other.
-ghost use Prim.Native.Nat.{_*_, _+_, _-_, _/_, _<_, _≤_};
+ghost use Prim.Native.Nat.{_*_, _-_, _/_, _<_};
 ghost use Rattle.reading.specs.Cursors.{Steps-in-span, tick-of};
 ghost use lib.ListN.{length};
 ghost use mathlib.Core.Path.{_≡_};

@@ -1,13 +1,12 @@
 use borrow.Author.Needs.{needs}
-use mathlib.Core.Path.{_≡_, refl, sym, ap, _∙_, subst}
-use Prim.Native.Nat.{_^_}
+use mathlib.Core.Path.{refl, ap, _∙_}
 use native.Mathlib.Omega.{arith}
 use mir.Syntax.{w64}
 use mir.Val.{SFits}
 use Rattle.std.proofs.shelf.Signed.{toZ-ofZ}
 use Rattle.height.specs.Files.{span-at}
 use Rattle.height.specs.Views.{almanac-of}
-use Rattle.reading.specs.Differences.{onward, Room}
+use Rattle.reading.specs.Differences.{onward}
 use Rattle.reading.proofs.Moments.{small, moment-is}
 use Rattle.reading.proofs.Rises.{onward-is, room}
 use Rattle.reading.proofs.cursor.Cursor.give.Needs as need
@@ -20,7 +19,8 @@ onward-self-requires c κs =
 pub ghost-self : need.ghost-self
 ghost-self c =
     let v = c .args .self .now in
-    (v .inside, (omega (arith, c .pre), (c .onward-self .ensures ∙ ap onward (v .stands) ∙ onward-is 1024 (span-at (v .view .numbers .now) (v .span)) (v .at), tt)))
+    let e = c .onward-self .ensures in
+    (v .inside, (omega (arith, c .pre), ((λ i. record { height = e .height i; first = e .first i; second = e .second i; third = e .third i }) ∙ ap onward (v .stands) ∙ onward-is 1024 (span-at (v .view .numbers .now) (v .span)) (v .at), tt)))
 
 pub returns : need.returns
 returns c =

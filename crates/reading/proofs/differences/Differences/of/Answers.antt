@@ -1,11 +1,11 @@
-use borrow.Author.Needs.{needs}
-use mathlib.Core.Path.{_≡_, sym, ap, _∙_}
-use Prim.Native.Nat.{ℕ, _+_, _*_, _^_, _≤_}
+use mathlib.Core.Path.{_≡_, sym, _∙_}
+use Prim.Native.Nat.{_+_, _*_, _^_, _≤_}
 use native.Mathlib.Omega.{arith}
 use lib.Dec.{lit≤}
 use lib.IntN.{ℤ, pos, natAbs, _*ℤ_, _+ℤ_}
 use Rattle.height.proofs.Sums.{square-le, product, sum-fits}
-use Rattle.reading.proofs.Rises.{first-is, second-is, third-is, two-code, three-fit, three-code, alone}
+use Rattle.reading.proofs.Rises.{first-is, second-is, third-is}
+use Rattle.reading.proofs.Sums.{two-code, three-fit, three-code, alone}
 use Rattle.reading.proofs.differences.Differences.of.Needs as need
 
 pub mul-u-4 : need.mul-u-4
