@@ -1,1 +1,2 @@
+pub mod OrdersBack
 pub mod Writing

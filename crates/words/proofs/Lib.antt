@@ -1,4 +1,5 @@
 pub mod Backs
 pub mod Figures
 pub mod Signs
+pub mod Solid
 pub mod Splits
