@@ -3,6 +3,8 @@
 //   entry     the entries over numbers: the first tick, a height, a tick's number
 //   almanac   the same questions to a checked file, with counts and places
 //   check     lines and ticks that are not taken
+#![tactic(auto)]
+
 pub mod almanac;
 pub mod ask;
 pub mod check;

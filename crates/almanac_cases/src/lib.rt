@@ -1,4 +1,6 @@
 // Cases for the whole almanac. Expected values were worked out elsewhere, by exact integers, or come from the search that evaluates every tick.
+#![tactic(auto)]
+
 #[cfg(test)]
 mod heights;
 pub mod random;

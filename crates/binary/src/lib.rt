@@ -6,6 +6,8 @@
 // `half_place_30` and `half_place_48` bound how far the fraction is off it, and are the
 // `leading_one` of the size of h over 2^83 and 2^101.
 // `theorems` has what holds of all of them, in exact numbers.
+#![tactic(auto)]
+
 mod digits;
 mod float;
 pub mod theorems;

@@ -8,6 +8,8 @@
 //   highest  in which tick a body is highest
 //   level    a line as heights are kept
 //   count    in how many ticks a body is above a line
+#![tactic(auto)]
+
 pub mod answer;
 pub mod ask;
 pub mod count;

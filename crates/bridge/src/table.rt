@@ -44,8 +44,8 @@ fn rises_after(entries: u64, rises: bool, one: bool) -> bool
 
 // The ticks of all risings and settings of the row's ticks from one on, in one walk: as many as there is room for.
 pub fn fill<S: Signal>(signal: &S, from: u64, into: &mut [u64]) -> Filled
-    requires { ready signal.now }
-    ensures { FilledWith (course signal.now) «from» into.old into.new result }
+    requires { S.ready signal.now }
+    ensures { FilledWith (S.course signal.now) «from» into.old into.new result }
 {
     let end = signal.end();
     if from >= end {

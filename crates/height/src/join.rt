@@ -7,9 +7,9 @@ use super::source::Source;
 
 // Whether span i meets the next one.
 fn meets<S: Source>(source: &S, i: u64) -> bool
-    requires inside { suc i < (almanac source.now).spans }
+    requires inside { suc i < (S.almanac source.now).spans }
     requires small { i < 4096 }
-    ensures { Decides result (Meets (almanac source.now) i) }
+    ensures { Decides result (Meets (S.almanac source.now) i) }
 {
     let mut meter = Meter::new();
     let n = source.span_ticks();
@@ -22,7 +22,7 @@ fn meets<S: Source>(source: &S, i: u64) -> bool
 
 // The first span that does not meet the next one; none where all meet.
 pub fn first_gap<S: Source>(source: &S) -> Option<u64>
-    ensures { elim result [ None ↦ AllMeet (almanac source.now) | Some i ↦ (suc i < (almanac source.now).spans) × (Meets (almanac source.now) i → ⊥) × ((j : ℕ) → j < i → Meets (almanac source.now) j) ] }
+    ensures { elim result [ None ↦ AllMeet (S.almanac source.now) | Some i ↦ (suc i < (S.almanac source.now).spans) × (Meets (S.almanac source.now) i → ⊥) × ((j : ℕ) → j < i → Meets (S.almanac source.now) j) ] }
 {
     let joins = source.spans() - 1;
     for i in 0..joins {

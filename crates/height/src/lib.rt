@@ -6,6 +6,8 @@
 //   file      the checked view of a lent file
 //   view      the check of a file, and what its view answers: spans, heights, rounded heights, whether its spans meet
 //   theorems  the promises that hold of every span and every file, each on a function
+#![tactic(auto)]
+
 pub mod file;
 pub mod join;
 pub mod meter;

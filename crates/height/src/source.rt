@@ -33,7 +33,7 @@ pub trait Source {
 
 // How many ticks there are.
 pub fn ticks<S: Source>(source: &S) -> u64
-    ensures value { result ≡ ticks_of (almanac source.now) }
+    ensures value { result ≡ ticks_of (S.almanac source.now) }
     ensures few { result ≤ 2 ^ 22 }
 {
     source.spans() * source.span_ticks()
@@ -41,8 +41,8 @@ pub fn ticks<S: Source>(source: &S) -> u64
 
 // The height in a tick, times 2^30.
 pub fn height<S: Source>(source: &S, tick: u64, meter: &mut Meter) -> i64
-    requires { tick < ticks_of (almanac source.now) }
-    ensures value { result ≡ height_at (almanac source.now) tick }
+    requires { tick < ticks_of (S.almanac source.now) }
+    ensures value { result ≡ height_at (S.almanac source.now) tick }
     ensures size { unsigned_abs result ≤ 2 ^ 57 }
     ensures counted { meter.new ≡ raised meter.old }
 {

@@ -1,4 +1,6 @@
 // The program: it reads the named files and standard input line by line, hands each line to a session, and prints what the session writes.
+#![tactic(auto)]
+
 use session::session::Session;
 use std::io::{BufRead, BufReader, Write};
 use std::{env, fs, io};

@@ -10,6 +10,8 @@
 //   stretch      the ticks of one span
 //   heights      all heights of a file
 //   theorems     the promises that hold of all of them, each on a function
+#![tactic(auto)]
+
 pub mod answer;
 pub mod cursor;
 pub mod differences;

@@ -10,8 +10,8 @@ use height::source::{Source, height};
 
 // The height in a tick, rounded once.
 pub fn near<S: Source>(source: &S, tick: u64) -> Near
-    requires { tick < ticks_of (almanac source.now) }
-    ensures { Nears (height_at (almanac source.now) tick) result }
+    requires { tick < ticks_of (S.almanac source.now) }
+    ensures { Nears (height_at (S.almanac source.now) tick) result }
 {
     let mut meter = Meter::new();
     let exact = height(source, tick, &mut meter);

@@ -15,9 +15,9 @@ const UNIT: i64 = 1 << 30;
 
 // How far the height in a tick is above a line, times 2^30.
 pub fn above<S: Source>(source: &S, line: i64, tick: u64) -> i64
-    requires inside { tick < ticks_of (almanac source.now) }
+    requires inside { tick < ticks_of (S.almanac source.now) }
     requires small { unsigned_abs line ≤ 2 ^ 24 }
-    ensures value { result ≡ above_line (height_at (almanac source.now) tick) line }
+    ensures value { result ≡ above_line (height_at (S.almanac source.now) tick) line }
     ensures size { unsigned_abs result < 2 ^ 59 }
 {
     let mut meter = Meter::new();
@@ -35,9 +35,9 @@ fn nearest_above(above: i64) -> f64
 
 // Whether a body is seen over a line in a tick, and how high over it. On the line it is seen, at +0.0.
 pub fn sighting<S: Source>(source: &S, line: i64, tick: u64) -> Sighting
-    requires inside { tick < ticks_of (almanac source.now) }
+    requires inside { tick < ticks_of (S.almanac source.now) }
     requires small { unsigned_abs line ≤ 2 ^ 24 }
-    ensures { Sights (height_at (almanac source.now) tick) line result }
+    ensures { Sights (height_at (S.almanac source.now) tick) line result }
 {
     let above = above(source, line, tick);
     let seen = above >= 0;

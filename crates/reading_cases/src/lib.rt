@@ -1,4 +1,6 @@
 // Tests of the readings. What they expect was worked out apart from the program, in exact fractions.
+#![tactic(auto)]
+
 #[cfg(test)]
 mod cursor;
 #[cfg(test)]

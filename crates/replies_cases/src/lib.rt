@@ -1,3 +1,5 @@
 // Tests of answers that are read back. What they expect was written down from docs/ALMANAC.md, and not taken from the program.
+#![tactic(auto)]
+
 #[cfg(test)]
 mod lines;

@@ -22,12 +22,12 @@ pub struct Found {
 
 // The first tick from one on in which the condition is as wanted.
 pub fn first_where<S: Signal>(signal: &S, from: u64, wanted: bool) -> Found
-    requires ready { ready signal.now }
-    requires start { «from» ≤ (course signal.now).stop }
-    ensures first { First (course signal.now).so wanted «from» (course signal.now).stop result.tick }
-    ensures walked { Walked (course signal.now) wanted «from» result.tick result.till result.evaluations }
-    ensures counted { result.heights ≡ result.evaluations * cost signal.now }
-    ensures small { (result.heights ≤ 4 * result.evaluations) × ((course signal.now).stop ≤ 268435456) }
+    requires ready { S.ready signal.now }
+    requires start { «from» ≤ (S.course signal.now).stop }
+    ensures first { First (S.course signal.now).so wanted «from» (S.course signal.now).stop result.tick }
+    ensures walked { Walked (S.course signal.now) wanted «from» result.tick result.till result.evaluations }
+    ensures counted { result.heights ≡ result.evaluations * S.cost signal.now }
+    ensures small { (result.heights ≤ 4 * result.evaluations) × ((S.course signal.now).stop ≤ 268435456) }
 {
     let end = signal.end();
     let mut meter = Meter::new();
@@ -57,11 +57,11 @@ pub fn first_where<S: Signal>(signal: &S, from: u64, wanted: bool) -> Found
 // The first tick from one on in which the condition becomes as wanted: the first one in which it is, behind the first in which it is not.
 // The second search goes on where the first one stopped, so the two are one walk.
 pub fn first_turn<S: Signal>(signal: &S, from: u64, wanted: bool) -> Found
-    requires ready { ready signal.now }
-    requires start { «from» < (course signal.now).stop }
-    ensures first { First (becomes wanted (course signal.now).so) true «from» (course signal.now).stop result.tick }
-    ensures walked { Walked (course signal.now) wanted («from» - 1) result.tick result.till result.evaluations }
-    ensures counted { result.heights ≡ result.evaluations * cost signal.now }
+    requires ready { S.ready signal.now }
+    requires start { «from» < (S.course signal.now).stop }
+    ensures first { First (becomes wanted (S.course signal.now).so) true «from» (S.course signal.now).stop result.tick }
+    ensures walked { Walked (S.course signal.now) wanted («from» - 1) result.tick result.till result.evaluations }
+    ensures counted { result.heights ≡ result.evaluations * S.cost signal.now }
 {
     let other = first_where(signal, from.saturating_sub(1), !wanted);
     let found = first_where(signal, other.till, wanted);
@@ -75,11 +75,11 @@ pub fn first_turn<S: Signal>(signal: &S, from: u64, wanted: bool) -> Found
 
 // The first tick from one on in which an event happens.
 pub fn first_event<S: Signal>(signal: &S, event: Event, from: u64) -> Found
-    requires ready { ready signal.now }
-    requires start { «from» < (course signal.now).stop }
-    ensures first { First (happens event (course signal.now).so) true «from» (course signal.now).stop result.tick }
-    ensures walked { Walked (course signal.now) (wanted_for event) (start_for event «from») result.tick result.till result.evaluations }
-    ensures counted { result.heights ≡ result.evaluations * cost signal.now }
+    requires ready { S.ready signal.now }
+    requires start { «from» < (S.course signal.now).stop }
+    ensures first { First (happens event (S.course signal.now).so) true «from» (S.course signal.now).stop result.tick }
+    ensures walked { Walked (S.course signal.now) (wanted_for event) (start_for event «from») result.tick result.till result.evaluations }
+    ensures counted { result.heights ≡ result.evaluations * S.cost signal.now }
 {
     match event {
         Event::Above => first_where(signal, from, true),

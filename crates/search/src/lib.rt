@@ -5,6 +5,8 @@
 //   first     the first tick in which it is as wanted, becomes so, or has an event
 //   list      all its risings and settings, in one walk
 //   theorems  promises on how many ticks a walk evaluates
+#![tactic(auto)]
+
 pub mod first;
 pub mod list;
 pub mod signal;

@@ -18,8 +18,8 @@ pub struct Listing {
 
 // All of the row's ticks from one on.
 pub fn crossings<S: Signal>(heap: Global, signal: &S, from: u64) -> Result<Listing, AllocError>
-    requires { ready signal.now }
-    ensures { IfOk result (λ l. (l.crossings.items ≡ crossings_of (course signal.now).so «from» ((course signal.now).stop - «from»)) × Steps (course signal.now) («from» - 1) «from» l.evaluations) }
+    requires { S.ready signal.now }
+    ensures { IfOk result (λ l. (l.crossings.items ≡ crossings_of (S.course signal.now).so «from» ((S.course signal.now).stop - «from»)) × Steps (S.course signal.now) («from» - 1) «from» l.evaluations) }
 {
     let end = signal.end();
     let mut list = Vec::new(heap);

@@ -9,6 +9,8 @@
 //   step      what a line of text leads to
 //   run       a whole run
 //   theorems  what is promised of it
+#![tactic(auto)]
+
 pub mod kind;
 pub mod line;
 pub mod memory;

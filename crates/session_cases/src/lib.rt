@@ -1,4 +1,6 @@
 // Whole runs, from text to text. What is expected was written down from docs/ALMANAC.md, and not taken from the program.
+#![tactic(auto)]
+
 use session::memory::NoMemory;
 use session::run::{Outcome, run};
 use std::alloc::Global;

@@ -13,8 +13,8 @@ use height::source::{Source, height, ticks};
 
 // Whether the height in a tick is over a level.
 fn is_over<S: Source>(source: &S, level: i64, tick: u64) -> bool
-    requires { tick < ticks_of (almanac source.now) }
-    ensures { result ≡ over (almanac source.now) level tick }
+    requires { tick < ticks_of (S.almanac source.now) }
+    ensures { result ≡ over (S.almanac source.now) level tick }
 {
     let mut meter = Meter::new();
     height(source, tick, &mut meter) >= level
@@ -33,8 +33,8 @@ fn happens_now(event: Event, is: bool, was: bool) -> bool
 
 // The first tick from one on in which an event happens, or the number of ticks where it happens in none.
 pub fn first_of_every<S: Source>(source: &S, level: i64, event: Event, from: u64) -> u64
-    requires { «from» < ticks_of (almanac source.now) }
-    ensures { First (happens event (over (almanac source.now) level)) true «from» (ticks_of (almanac source.now)) result }
+    requires { «from» < ticks_of (S.almanac source.now) }
+    ensures { First (happens event (over (S.almanac source.now) level)) true «from» (ticks_of (S.almanac source.now)) result }
 {
     let end = ticks(source);
     let mut was = is_over(source, level, from.saturating_sub(1));

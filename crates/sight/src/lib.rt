@@ -3,6 +3,8 @@
 //   sight     the signal that the search walks over, and how many ticks may be skipped
 //   every     the search that evaluates every tick, which tests run against
 //   theorems  what the number of skipped ticks is
+#![tactic(auto)]
+
 pub mod every;
 pub mod sight;
 pub mod theorems;

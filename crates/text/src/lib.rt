@@ -4,6 +4,8 @@
 //   written   the same, written
 //   answer    answers and refusals, written
 //   theorems  that what is written is read as it was
+#![tactic(auto)]
+
 pub mod answer;
 pub mod order;
 pub mod theorems;

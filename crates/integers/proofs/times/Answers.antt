@@ -4,8 +4,8 @@ use Rattle.std.proofs.lemmas.Int.{to_z-of_z}
 use Rattle.integers.proofs.Cast.{product_fits, product_code}
 use Rattle.integers.proofs.times.Goals as goal
 
-pub overflow-mul-result : goal.overflow-mul-result
-overflow-mul-result c =
+pub overflow_mul-result : goal.overflow_mul-result
+overflow_mul-result c =
     rw (product_code c.args.x c.args.k c.ranges.x (search rules)) (product_fits c.args.x c.args.k c.ranges.x (search rules))
 
 pub returns : goal.returns

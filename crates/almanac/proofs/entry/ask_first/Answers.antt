@@ -9,4 +9,4 @@ pub returns : goal.returns
 returns c =
     let fl : SFits w64 c.args.line = c.ranges.line in
     let taken : Taken c.args.spans.now c.args.line c.args.from c.args.what = search rules in
-    (taken, says_lent c.args.spans.now (numbers_of c.new-almanac.result) c.args.line c.in-ok-event.event c.args.from c.args.what c.in-ok-first.field-0.tick c.new-almanac.ensures c.in-ok-event.ensures.1 (simp to_z-of_z at c.in-ok-first.ensures.2))
+    (taken, says_lent c.args.spans.now (numbers_of c.new-almanac.result) c.args.line c.in_ok-event.event c.args.from c.args.what c.in_ok-first.field-0.tick c.new-almanac.ensures c.in_ok-event.ensures.1 (simp to_z-of_z at c.in_ok-first.ensures.2))

@@ -4,13 +4,13 @@ use Rattle.std.proofs.lemmas.Int.{to_z-of_z}
 use Rattle.binary.proofs.Coded.{half_place_at, one_below, two_to_101}
 use Rattle.binary.proofs.float.half_place_48.Goals as goal
 
-pub nearest-u128-requires : goal.nearest-u128-requires
-nearest-u128-requires c =
-    let n_is = c.unsigned-abs.ensures.value ∙ ap nat_abs (to_z-of_z w128 c.args.h c.ranges.h) in
-    one_below c.unsigned-abs.result c.leading_one.result 80 (subst (λ (n : ℕ). n < 2 ^ 80) (sym n_is) c.requires) c.leading_one.ensures
+pub nearest_u128-requires : goal.nearest_u128-requires
+nearest_u128-requires c =
+    let n_is = c.unsigned_abs.ensures.value ∙ ap nat_abs (to_z-of_z w128 c.args.h c.ranges.h) in
+    one_below c.unsigned_abs.result c.leading_one.result 80 (subst (λ (n : ℕ). n < 2 ^ 80) (sym n_is) c.requires) c.leading_one.ensures
 
 pub returns : goal.returns
 returns c =
-    let n_is = c.unsigned-abs.ensures.value ∙ ap nat_abs (to_z-of_z w128 c.args.h c.ranges.h) in
-    let both = half_place_at 48 c.args.h c.unsigned-abs.result c.leading_one.result c.nearest-u128.result _ (lit≤ tt) (lt_of_lt_of_le c.requires (lit≤ tt)) n_is c.leading_one.ensures c.nearest-u128.ensures two_to_101 in
+    let n_is = c.unsigned_abs.ensures.value ∙ ap nat_abs (to_z-of_z w128 c.args.h c.ranges.h) in
+    let both = half_place_at 48 c.args.h c.unsigned_abs.result c.leading_one.result c.nearest_u128.result _ (lit≤ tt) (lt_of_lt_of_le c.requires (lit≤ tt)) n_is c.leading_one.ensures c.nearest_u128.ensures two_to_101 in
     record { value = both.0; within = both.1 }

@@ -6,4 +6,4 @@ use Rattle.binary.proofs.float.nearest_30.Goals as goal
 
 pub returns : goal.returns
 returns c =
-    nearest_at 30 c.args.h c.nearest-i64-to-f64-whole.result _ (lit≤ tt) (i64_below c.args.h c.ranges.h) (c.nearest-i64-to-f64-whole.ensures ∙ ap (of_int binary64) (to_z-of_z w64 c.args.h c.ranges.h)) two_to_30
+    nearest_at 30 c.args.h c.nearest_i64_to_f64-whole.result _ (lit≤ tt) (i64_below c.args.h c.ranges.h) (c.nearest_i64_to_f64-whole.ensures ∙ ap (of_int binary64) (to_z-of_z w64 c.args.h c.ranges.h)) two_to_30

@@ -7,4 +7,4 @@ use Rattle.binary.proofs.float.nearest_48.Goals as goal
 
 pub returns : goal.returns
 returns c =
-    nearest_at 48 c.args.h c.nearest-i128.result _ (lit≤ tt) (lt_of_lt_of_le c.requires (lit≤ tt)) (c.nearest-i128.ensures ∙ ap (of_int binary64) (to_z-of_z w128 c.args.h c.ranges.h)) two_to_48
+    nearest_at 48 c.args.h c.nearest_i128.result _ (lit≤ tt) (lt_of_lt_of_le c.requires (lit≤ tt)) (c.nearest_i128.ensures ∙ ap (of_int binary64) (to_z-of_z w128 c.args.h c.ranges.h)) two_to_48

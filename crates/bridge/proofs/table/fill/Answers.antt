@@ -7,19 +7,19 @@ returns-then-from-end g c = filling_nothing (g.S.Signal.course c.args.signal.now
 
 pub loop-tick-init : goal.loop-tick-init
 loop-tick-init g c = (
-  filling_start (g.S.Signal.course c.args.signal.now) c.args.from c.saturating-sub.result c.evaluate-before.result.till c.evaluate-before.result.holds c.args.into.now c.saturating-sub.ensures c.evaluate-before.ensures.seen,
+  filling_start (g.S.Signal.course c.args.signal.now) c.args.from c.saturating_sub.result c.evaluate-before.result.till c.evaluate-before.result.holds c.args.into.now c.saturating_sub.ensures c.evaluate-before.ensures.seen,
   omega arith,
 )
 
 pub loop-tick-preserved-then-found-end : goal.loop-tick-preserved-then-found-end
 loop-tick-preserved-then-found-end g c = (
-  filling_one (g.S.Signal.course c.args.signal.now) c.args.from c.loop-tick.tick c.first-where-found.result.tick c.first-where-found.result.till c.loop-tick.evaluations c.first-where-found.result.evaluations c.loop-tick.entries c.loop-tick.above c.loop-tick.rises c.rises-after-rises.result c.args.into.now c.loop-tick.into c.put.new.into c.loop-tick.invariant.0 c.first-where-found.ensures.first c.first-where-found.ensures.walked (omega arith) c.put.ensures c.rises-after-rises.ensures,
+  filling_one (g.S.Signal.course c.args.signal.now) c.args.from c.loop-tick.tick c.first_where-found.result.tick c.first_where-found.result.till c.loop-tick.evaluations c.first_where-found.result.evaluations c.loop-tick.entries c.loop-tick.above c.loop-tick.rises c.rises_after-rises.result c.args.into.now c.loop-tick.into c.put.new.into c.loop-tick.invariant.0 c.first_where-found.ensures.first c.first_where-found.ensures.walked (omega arith) c.put.ensures c.rises_after-rises.ensures,
   omega arith,
 )
 
 pub loop-tick-preserved : goal.loop-tick-preserved
 loop-tick-preserved g c = (
-  filling_none (g.S.Signal.course c.args.signal.now) c.args.from c.loop-tick.tick c.first-where-found.result.tick c.first-where-found.result.till c.loop-tick.evaluations c.first-where-found.result.evaluations c.loop-tick.entries c.loop-tick.above c.loop-tick.rises c.args.into.now c.loop-tick.into c.loop-tick.invariant.0 c.first-where-found.ensures.first c.first-where-found.ensures.walked (omega arith),
+  filling_none (g.S.Signal.course c.args.signal.now) c.args.from c.loop-tick.tick c.first_where-found.result.tick c.first_where-found.result.till c.loop-tick.evaluations c.first_where-found.result.evaluations c.loop-tick.entries c.loop-tick.above c.loop-tick.rises c.args.into.now c.loop-tick.into c.loop-tick.invariant.0 c.first_where-found.ensures.first c.first_where-found.ensures.walked (omega arith),
   omega arith,
 )
 

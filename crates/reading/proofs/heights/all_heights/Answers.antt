@@ -14,8 +14,8 @@ loop-moment-preserved c =
     let f : SFits w64 c.in-Some.moment.height = search rules in (
       step.2.file ∙ c.loop-moment.invariant.0,
       one_more (almanac_of c.args.view) (almanac_of was.view) (tick_of was) (tick_of c.next.new.self) (vec_items c.loop-moment.heights) (vec_items c.push.new.self) c.in-Some.moment.height
-          (ap (almanac_in 1024) c.loop-moment.invariant.0) step.2.tick (ap (λ x. x.height) step.1) c.loop-moment.invariant.1 (simp to_z-of_z at c.in-ok-push.ensures.items),
+          (ap (almanac_in 1024) c.loop-moment.invariant.0) step.2.tick (ap (λ x. x.height) step.1) c.loop-moment.invariant.1 (simp to_z-of_z at c.in_ok-push.ensures.items),
     )
 
-pub returns-in-err-push : goal.returns-in-err-push
-returns-in-err-push c = IfOk-from_err c.from-residual.result _ c.from-residual.ensures.0
+pub returns-in_err-push : goal.returns-in_err-push
+returns-in_err-push c = IfOk-from_err c.from-residual.result _ c.from-residual.ensures.0

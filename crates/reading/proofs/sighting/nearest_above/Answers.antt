@@ -11,5 +11,5 @@ pub returns : goal.returns
 returns c =
     let h = c.args.above in
     let f = c.ranges.above in
-    let value = simp to_z-of_z at c.nearest-30.ensures in
+    let value = simp to_z-of_z at c.nearest_30.ensures in
     record { value = value; plain = rw value (not_negative_stands 30 h (lit≤ tt) (far h f) c.requires) }

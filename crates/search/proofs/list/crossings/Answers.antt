@@ -12,18 +12,18 @@ returns-then-from-end g c =
 
 pub loop-tick-init : goal.loop-tick-init
 loop-tick-init g c = (
-  collected_start (g.S.Signal.course c.args.signal.now) c.args.from c.saturating-sub.result c.evaluate-before.result.till c.evaluate-before.result.holds (vec_items c.new-list.result) c.saturating-sub.ensures c.new-list.ensures.items c.evaluate-before.ensures.seen,
+  collected_start (g.S.Signal.course c.args.signal.now) c.args.from c.saturating_sub.result c.evaluate-before.result.till c.evaluate-before.result.holds (vec_items c.new-list.result) c.saturating_sub.ensures c.new-list.ensures.items c.evaluate-before.ensures.seen,
   omega arith,
 )
 
-pub loop-tick-preserved-in-ok-push : goal.loop-tick-preserved-in-ok-push
-loop-tick-preserved-in-ok-push g c = (
-  collected_one (g.S.Signal.course c.args.signal.now) c.args.from c.loop-tick.tick c.first-where-found.result.tick c.first-where-found.result.till c.loop-tick.evaluations c.first-where-found.result.evaluations c.loop-tick.above (vec_items c.loop-tick.list) (vec_items c.push.new.self) c.loop-tick.invariant.0 c.first-where-found.ensures.first c.first-where-found.ensures.walked (omega arith) c.in-ok-push.ensures.items,
+pub loop-tick-preserved-in_ok-push : goal.loop-tick-preserved-in_ok-push
+loop-tick-preserved-in_ok-push g c = (
+  collected_one (g.S.Signal.course c.args.signal.now) c.args.from c.loop-tick.tick c.first_where-found.result.tick c.first_where-found.result.till c.loop-tick.evaluations c.first_where-found.result.evaluations c.loop-tick.above (vec_items c.loop-tick.list) (vec_items c.push.new.self) c.loop-tick.invariant.0 c.first_where-found.ensures.first c.first_where-found.ensures.walked (omega arith) c.in_ok-push.ensures.items,
   omega arith,
 )
 
 pub loop-tick-preserved : goal.loop-tick-preserved
 loop-tick-preserved g c = (
-  collected_none (g.S.Signal.course c.args.signal.now) c.args.from c.loop-tick.tick c.first-where-found.result.tick c.first-where-found.result.till c.loop-tick.evaluations c.first-where-found.result.evaluations c.loop-tick.above (vec_items c.loop-tick.list) c.loop-tick.invariant.0 c.first-where-found.ensures.first c.first-where-found.ensures.walked (omega arith),
+  collected_none (g.S.Signal.course c.args.signal.now) c.args.from c.loop-tick.tick c.first_where-found.result.tick c.first_where-found.result.till c.loop-tick.evaluations c.first_where-found.result.evaluations c.loop-tick.above (vec_items c.loop-tick.list) c.loop-tick.invariant.0 c.first_where-found.ensures.first c.first_where-found.ensures.walked (omega arith),
   omega arith,
 )

@@ -10,17 +10,17 @@ loop-word-init c =
 
 pub returns-then-word-eq0 : goal.returns-then-word-eq0
 returns-then-word-eq0 c =
-    pushed_all (vec_items c.args.numbers.now) (vec_items c.loop-word.numbers) (words c.args.line.now) (words c.loop-word.rest.now) c.len-had.result c.loop-word.invariant (c.first-word.ensures.none c.if-word-eq0.true)
+    pushed_all (vec_items c.args.numbers.now) (vec_items c.loop-word.numbers) (words c.args.line.now) (words c.loop-word.rest.now) c.len-had.result c.loop-word.invariant (c.first_word.ensures.none c.if-word-eq0.true)
 
 pub returns-in-None : goal.returns-in-None
 returns-in-None c =
-    pushed_none (vec_items c.args.numbers.now) (vec_items c.loop-word.numbers) (vec_items c.truncate.new.self) (words c.args.line.now) (words c.loop-word.rest.now) (words c.first-word.result.1.now) c.len-had.result c.first-word.result.0.now
-    c.loop-word.invariant (c.first-word.ensures.some (omega (arith, c.if-word-eq0.false))) c.in-None.ensures.value c.truncate.ensures.items
+    pushed_none (vec_items c.args.numbers.now) (vec_items c.loop-word.numbers) (vec_items c.truncate.new.self) (words c.args.line.now) (words c.loop-word.rest.now) (words c.first_word.result.1.now) c.len-had.result c.first_word.result.0.now
+    c.loop-word.invariant (c.first_word.ensures.some (omega (arith, c.if-word-eq0.false))) c.in-None.ensures.value c.truncate.ensures.items
 
 pub loop-word-preserved : goal.loop-word-preserved
 loop-word-preserved c =
     let f : SFits w64 c.in-Some.z = search rules in
     let g : SFits w32 c.kept.result = search rules in
-    pushed_more (vec_items c.args.numbers.now) (vec_items c.loop-word.numbers) (vec_items c.push.new.self) (words c.args.line.now) (words c.loop-word.rest.now) (words c.first-word.result.1.now) c.len-had.result c.first-word.result.0.now c.in-Some.z
-    c.loop-word.invariant (c.first-word.ensures.some (omega (arith, c.if-word-eq0.false))) c.in-Some.ensures.value
-    ((simp to_z-of_z at c.in-ok-push.ensures.items) ∙ ap (λ (x : ℤ). vec_items c.loop-word.numbers ++ (x ∷ [])) (simp to_z-of_z at c.kept.ensures))
+    pushed_more (vec_items c.args.numbers.now) (vec_items c.loop-word.numbers) (vec_items c.push.new.self) (words c.args.line.now) (words c.loop-word.rest.now) (words c.first_word.result.1.now) c.len-had.result c.first_word.result.0.now c.in-Some.z
+    c.loop-word.invariant (c.first_word.ensures.some (omega (arith, c.if-word-eq0.false))) c.in-Some.ensures.value
+    ((simp to_z-of_z at c.in_ok-push.ensures.items) ∙ ap (λ (x : ℤ). vec_items c.loop-word.numbers ++ (x ∷ [])) (simp to_z-of_z at c.kept.ensures))

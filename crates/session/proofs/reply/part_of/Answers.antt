@@ -4,16 +4,16 @@ use Rattle.almanac.specs.Doors.{numbers_of}
 use Rattle.session.proofs.Answering.{part_there, part_not_first, part_not_end}
 use Rattle.session.proofs.reply.part_of.Goals as goal
 
-pub returns-in-default : goal.returns-in-default
-returns-in-default c =
+pub returns-in_default : goal.returns-in_default
+returns-in_default c =
     let f : SFits w64 c.args.first = c.ranges.first in
-    part_not_first (numbers_of c.args.almanac.now) c.args.first c.args.end c.part.result.now (simp to_z-of_z at c.in-default.ensures) c.part.ensures
+    part_not_first (numbers_of c.args.almanac.now) c.args.first c.args.end c.part.result.now (simp to_z-of_z at c.in_default.ensures) c.part.ensures
 
-pub returns-in-default-natural : goal.returns-in-default-natural
-returns-in-default-natural c =
+pub returns-in_default-natural : goal.returns-in_default-natural
+returns-in_default-natural c =
     let f : SFits w64 c.args.first = c.ranges.first in
     let g : SFits w64 c.args.end = c.ranges.end in
-    part_not_end (numbers_of c.args.almanac.now) c.args.first c.args.end c.in-Some.first c.part-in-default-natural.result.now (simp to_z-of_z at c.in-Some.ensures) (simp to_z-of_z at c.in-default-natural.ensures) c.part-in-default-natural.ensures
+    part_not_end (numbers_of c.args.almanac.now) c.args.first c.args.end c.in-Some.first c.part-in_default-natural.result.now (simp to_z-of_z at c.in-Some.ensures) (simp to_z-of_z at c.in_default-natural.ensures) c.part-in_default-natural.ensures
 
 pub returns : goal.returns
 returns c =

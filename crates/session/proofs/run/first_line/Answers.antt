@@ -11,10 +11,10 @@ cut (b ∷ bs) line after n e f g h some =
       omega (arith, p.1),
     )
 
-pub split-at-requires : goal.split-at-requires
-split-at-requires c = omega (arith, c.line_len.ensures, line_len_le c.args.text.now)
+pub split_at-requires : goal.split_at-requires
+split_at-requires c = omega (arith, c.line_len.ensures, line_len_le c.args.text.now)
 
 pub returns : goal.returns
 returns c =
-    let p = cut c.args.text.now c.split-at.result.0.now c.split-at.result.1.now c.line_len.result c.line_len.ensures c.split-at.ensures.front c.split-at.ensures.back c.split-at.ensures.back_len in
+    let p = cut c.args.text.now c.split_at.result.0.now c.split_at.result.1.now c.line_len.result c.line_len.ensures c.split_at.ensures.front c.split_at.ensures.back c.split_at.ensures.back_len in
     record { some = λ h. (p h).0; less = λ h. (p h).1 }

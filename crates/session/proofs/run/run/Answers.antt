@@ -6,7 +6,7 @@ use Rattle.session.proofs.run.run.Goals as goal
 
 pub loop-rest-preserved : goal.loop-rest-preserved
 loop-rest-preserved c =
-    let e = c.in-ok-feed.ensures in
+    let e = c.in_ok-feed.ensures in
     running_more c.args.text.now (state_of c.loop-rest.session) (state_of c.feed.new.self) (string_bytes c.loop-rest.out) (string_bytes c.feed.new.out) c.loop-rest.rest.now c.first_line.result.0.now c.first_line.result.1.now
     c.loop-rest.invariant (c.first_line.ensures.some (omega arith)) e.0 e.1
 

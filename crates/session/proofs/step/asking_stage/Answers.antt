@@ -9,4 +9,4 @@ returns-in-Ok c = record { sound = good_yes c.args.numbers.now c.in-Ok.ensures; 
 pub returns-in-Err : goal.returns-in-Err
 returns-in-Err c =
     let e = c.in-Err.ensures in
-    record { sound = refused_at c.args.numbers.now c.file-place.result e.0 (c.file-place.ensures (first_beyond c.args.numbers.now) e.1); phase = refl }
+    record { sound = refused_at c.args.numbers.now c.file_place.result e.0 (c.file_place.ensures (first_beyond c.args.numbers.now) e.1); phase = refl }

@@ -11,7 +11,7 @@ loop-i-preserved c =
     let f1 : SFits w32 (get_or xs (4 * i + 1) (pos 0)) = search rules in
     let f2 : SFits w32 (get_or xs (4 * i + 2) (pos 0)) = search rules in
     let f3 : SFits w32 (get_or xs (4 * i + 3) (pos 0)) = search rules in
-    part_more c.args.part.now c.loop-i.i (string_bytes c.loop-i.out) (string_bytes c.put-span.new.out) _ (omega arith) c.loop-i.invariant (simp to_z-of_z at c.in-ok-put-span.ensures)
+    part_more c.args.part.now c.loop-i.i (string_bytes c.loop-i.out) (string_bytes c.put_span.new.out) _ (omega arith) c.loop-i.invariant (simp to_z-of_z at c.in_ok-put_span.ensures)
 
 pub returns : goal.returns
 returns c =

@@ -9,8 +9,8 @@ returns c =
     let f : SFits w64 c.args.above = c.ranges.above in
     let h = c.args.above in
     let one = string_bytes c.write.new.self in
-    let two = string_bytes c.put-float-30.new.out in
-    let is = string_bytes c.put-break.new.out in
-    let r = c.put-break.result in
-    then (string_bytes c.args.out.now) (codes "seen ") (float_text 30 h ++ codes "\n") one is r c.in-ok-write.ensures.bytes
-    (then one (float_text 30 h) (codes "\n") two is r (simp to_z-of_z at c.in-ok-put-float-30.ensures) c.put-break.ensures)
+    let two = string_bytes c.put_float_30.new.out in
+    let is = string_bytes c.put_break.new.out in
+    let r = c.put_break.result in
+    then (string_bytes c.args.out.now) (codes "seen ") (float_text 30 h ++ codes "\n") one is r c.in_ok-write.ensures.bytes
+    (then one (float_text 30 h) (codes "\n") two is r (simp to_z-of_z at c.in_ok-put_float_30.ensures) c.put_break.ensures)

@@ -10,21 +10,21 @@ returns-then-count-lt1 c = record { value = none c.then-count-lt1.either; small 
     none (inl p) = sym (too_short c.args.word.now (omega arith))
     none (inr p) = sym (too_long c.args.word.now p.1)
 
-pub returns-then-not-is-ascii-digit : goal.returns-then-not-is-ascii-digit
-returns-then-not-is-ascii-digit c =
-    record { value = sym (reading_stops c.args.word.now c.loop-byte.byte-index c.loop-byte.n c.loop-byte.invariant (omega arith) (sym c.is-ascii-digit.ensures.value ∙ c.if-not-is-ascii-digit.true)); small = tt }
+pub returns-then-not-is_ascii_digit : goal.returns-then-not-is_ascii_digit
+returns-then-not-is_ascii_digit c =
+    record { value = sym (reading_stops c.args.word.now c.loop-byte.byte-index c.loop-byte.n c.loop-byte.invariant (omega arith) (sym c.is_ascii_digit.ensures.value ∙ c.if-not-is_ascii_digit.true)); small = tt }
 
-pub overflow-mul-n : goal.overflow-mul-n
-overflow-mul-n c = omega (arith, reading_fits c.args.word.now c.loop-byte.byte-index c.loop-byte.n c.loop-byte.invariant (omega arith))
+pub overflow_mul-n : goal.overflow_mul-n
+overflow_mul-n c = omega (arith, reading_fits c.args.word.now c.loop-byte.byte-index c.loop-byte.n c.loop-byte.invariant (omega arith))
 
-pub overflow-add-n : goal.overflow-add-n
-overflow-add-n c =
-    let le : get_or c.args.word.now c.loop-byte.byte-index 0 < 58 = digit_le _ (sym c.is-ascii-digit.ensures.value ∙ c.if-not-is-ascii-digit.false) in
+pub overflow_add-n : goal.overflow_add-n
+overflow_add-n c =
+    let le : get_or c.args.word.now c.loop-byte.byte-index 0 < 58 = digit_le _ (sym c.is_ascii_digit.ensures.value ∙ c.if-not-is_ascii_digit.false) in
     omega (arith, reading_fits c.args.word.now c.loop-byte.byte-index c.loop-byte.n c.loop-byte.invariant (omega arith))
 
 pub loop-byte-preserved : goal.loop-byte-preserved
 loop-byte-preserved c =
-    let is = sym c.is-ascii-digit.ensures.value ∙ c.if-not-is-ascii-digit.false in
+    let is = sym c.is_ascii_digit.ensures.value ∙ c.if-not-is_ascii_digit.false in
     reading_more c.args.word.now c.loop-byte.byte-index c.loop-byte.n c.loop-byte.invariant (omega arith) is (digit_le _ is)
 
 pub returns : goal.returns

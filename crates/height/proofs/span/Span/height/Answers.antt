@@ -3,11 +3,11 @@ use Rattle.height.specs.Spans.{height}
 use Rattle.height.proofs.Sums.{square_le, cube_le, product, sum_fits, sums_fit, sums_code, sums_size}
 use Rattle.height.proofs.span.Span.height.Goals as goal
 
-pub overflow-mul-cube : goal.overflow-mul-cube
-overflow-mul-cube c = omega (arith, cube_le c.args.tick c.requires.inside)
+pub overflow_mul-cube : goal.overflow_mul-cube
+overflow_mul-cube c = omega (arith, cube_le c.args.tick c.requires.inside)
 
-pub overflow-mul-square-2 : goal.overflow-mul-square-2
-overflow-mul-square-2 c = omega (arith, square_le c.args.tick c.requires.inside)
+pub overflow_mul-square-2 : goal.overflow_mul-square-2
+overflow_mul-square-2 c = omega (arith, square_le c.args.tick c.requires.inside)
 
 a-is : (c : goal.After-times-d) → (c.times-a.result ≡ c.args.self.a *ℤ pos 1073741824) × (nat_abs c.times-a.result ≤ 2 ^ 55)
 a-is c = product c.args.self.a c.times-a.result 1073741824 c.requires.small.a (lit≤ tt) c.times-a.ensures
@@ -23,14 +23,14 @@ d-is : (c : goal.After-times-d) → (c.times-d.result ≡ c.args.self.d *ℤ pos
 d-is c =
     product c.args.self.d c.times-d.result (c.args.tick * (c.args.tick * c.args.tick)) c.requires.small.d (omega (arith, cube_le c.args.tick c.requires.inside)) c.times-d.ensures
 
-pub overflow-add-result : goal.overflow-add-result
-overflow-add-result c = sum_fits c.times-a.result c.times-b.result (a-is c).1 (b-is c).1
+pub overflow_add-result : goal.overflow_add-result
+overflow_add-result c = sum_fits c.times-a.result c.times-b.result (a-is c).1 (b-is c).1
 
-pub overflow-add-result-2 : goal.overflow-add-result-2
-overflow-add-result-2 c = sum_fits c.times-c.result c.times-d.result (c-is c).1 (d-is c).1
+pub overflow_add-result-2 : goal.overflow_add-result-2
+overflow_add-result-2 c = sum_fits c.times-c.result c.times-d.result (c-is c).1 (d-is c).1
 
-pub overflow-add-result-3 : goal.overflow-add-result-3
-overflow-add-result-3 c = sums_fit c.times-a.result c.times-b.result c.times-c.result c.times-d.result (a-is c).1 (b-is c).1 (c-is c).1 (d-is c).1
+pub overflow_add-result-3 : goal.overflow_add-result-3
+overflow_add-result-3 c = sums_fit c.times-a.result c.times-b.result c.times-c.result c.times-d.result (a-is c).1 (b-is c).1 (c-is c).1 (d-is c).1
 
 -- the square's factor, as the definition has it
 shared : (u : ℕ) → u * u * 1024 ≡ u * (u * 1024)

@@ -4,14 +4,14 @@ use Rattle.reading.proofs.Rises.{first_is, second_is, third_is}
 use Rattle.reading.proofs.Sums.{two_code, three_fit, three_code, alone}
 use Rattle.reading.proofs.differences.Differences.of.Goals as goal
 
-pub overflow-mul-u-4 : goal.overflow-mul-u-4
-overflow-mul-u-4 c = omega (arith, square_le c.args.tick c.requires.inside)
+pub overflow_mul-u-4 : goal.overflow_mul-u-4
+overflow_mul-u-4 c = omega (arith, square_le c.args.tick c.requires.inside)
 
-pub overflow-add-u-2 : goal.overflow-add-u-2
-overflow-add-u-2 c = omega (arith, square_le c.args.tick c.requires.inside)
+pub overflow_add-u-2 : goal.overflow_add-u-2
+overflow_add-u-2 c = omega (arith, square_le c.args.tick c.requires.inside)
 
-pub overflow-add-u-3 : goal.overflow-add-u-3
-overflow-add-u-3 c = omega (arith, square_le c.args.tick c.requires.inside)
+pub overflow_add-u-3 : goal.overflow_add-u-3
+overflow_add-u-3 c = omega (arith, square_le c.args.tick c.requires.inside)
 
 b-is : (c : goal.After-height-height) → (c.times-b.result ≡ c.args.span.b *ℤ pos 1048576) × (nat_abs c.times-b.result ≤ 2 ^ 55)
 b-is c = product c.args.span.b c.times-b.result 1048576 c.requires.small.b (lit≤ tt) c.times-b.ensures
@@ -32,14 +32,14 @@ turn_is c = product c.args.span.d c.times-turn.result (6 * (c.args.tick + 1)) c.
 third_of : (c : goal.After-height-height) → (c.times-third.result ≡ c.args.span.d *ℤ pos 6) × (nat_abs c.times-third.result ≤ 2 ^ 55)
 third_of c = product c.args.span.d c.times-third.result 6 c.requires.small.d (lit≤ tt) c.times-third.ensures
 
-pub overflow-add-result : goal.overflow-add-result
-overflow-add-result c = sum_fits c.times-b.result c.times-c.result (b-is c).1 (c-is c).1
+pub overflow_add-result : goal.overflow_add-result
+overflow_add-result c = sum_fits c.times-b.result c.times-c.result (b-is c).1 (c-is c).1
 
-pub overflow-add-result-2 : goal.overflow-add-result-2
-overflow-add-result-2 c = three_fit c.times-b.result c.times-c.result c.times-d.result (b-is c).1 (c-is c).1 (d-is c).1
+pub overflow_add-result-2 : goal.overflow_add-result-2
+overflow_add-result-2 c = three_fit c.times-b.result c.times-c.result c.times-d.result (b-is c).1 (c-is c).1 (d-is c).1
 
-pub overflow-add-result-3 : goal.overflow-add-result-3
-overflow-add-result-3 c = sum_fits c.times-bend.result c.times-turn.result (bend-is c).1 (turn_is c).1
+pub overflow_add-result-3 : goal.overflow_add-result-3
+overflow_add-result-3 c = sum_fits c.times-bend.result c.times-turn.result (bend-is c).1 (turn_is c).1
 
 pub returns : goal.returns
 returns c =

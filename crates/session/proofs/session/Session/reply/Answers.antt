@@ -7,5 +7,5 @@ use Rattle.session.proofs.session.Session.reply.Goals as goal
 
 pub new-almanac-requires : goal.new-almanac-requires
 new-almanac-requires c =
-    subst Good (sym c.as-slice.ensures.value)
+    subst Good (sym c.as_slice.ensures.value)
     (good_from (vec_items c.args.self.now.numbers) (subst (λ (s : Stage). stage_fits s (vec_items c.args.self.now.numbers) ≡ true) c.in-Asking.is c.args.self.now.sound))

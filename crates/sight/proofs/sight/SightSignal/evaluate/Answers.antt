@@ -14,11 +14,11 @@ seen g c =
     let m = g.S.Source.almanac c.args.self.now.source in
     let fh : SFits w64 c.height-height.result = search rules in
     let fl : SFits w64 c.args.self.now.level = search rules in
-    sighted m c.args.self.now.level c.height-height.result c.args.self.now.end c.args.tick c.span-ticks-n.result c.span-span.result c.abs-diff.result c.slope.result c.min-room.result c.skip-skipped.result
-    (omega (arith, c.span-ticks-n.ensures.coarse)) c.span-ticks-n.ensures.value c.span-span.ensures.value
-    (height_read m c.args.tick c.span-ticks-n.result 1024 c.span-span.result c.height-height.result c.span-ticks-n.ensures.value c.span-ticks-n.ensures.coarse c.span-span.ensures.value c.height-height.ensures.value)
-    (simp to_z-of_z at c.abs-diff.ensures)
-    (c.slope.ensures.value ∙ ap (λ (n : ℕ). slope n c.span-span.result) (sym c.span-ticks-n.ensures.coarse))
+    sighted m c.args.self.now.level c.height-height.result c.args.self.now.end c.args.tick c.span_ticks-n.result c.span-span.result c.abs_diff.result c.slope.result c.min-room.result c.skip-skipped.result
+    (omega (arith, c.span_ticks-n.ensures.coarse)) c.span_ticks-n.ensures.value c.span-span.ensures.value
+    (height_read m c.args.tick c.span_ticks-n.result 1024 c.span-span.result c.height-height.result c.span_ticks-n.ensures.value c.span_ticks-n.ensures.coarse c.span-span.ensures.value c.height-height.ensures.value)
+    (simp to_z-of_z at c.abs_diff.ensures)
+    (c.slope.ensures.value ∙ ap (λ (n : ℕ). slope n c.span-span.result) (sym c.span_ticks-n.ensures.coarse))
     c.min-room.ensures c.skip-skipped.ensures.value c.requires.inside
 
 pub returns : goal.returns
