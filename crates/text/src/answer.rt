@@ -14,8 +14,8 @@ pub fn put_tick(out: &mut String, tick: Option<u64>) -> fmt::Result
     ensures { Appends (string_bytes out.old) (tick_bytes tick) (string_bytes out.new) result }
 {
     match tick {
-        Some(t) => write!(out, "{t}\n"),
-        None => write!(out, "none\n"),
+        Some(t) => Ok(write!(out, "{t}\n")?),
+        None => Ok(write!(out, "none\n")?),
     }
 }
 
@@ -23,14 +23,14 @@ pub fn put_tick(out: &mut String, tick: Option<u64>) -> fmt::Result
 pub fn put_height(out: &mut String, height: i64) -> fmt::Result
     ensures { Appends (string_bytes out.old) (height_bytes height) (string_bytes out.new) result }
 {
-    write!(out, "{height}\n")
+    Ok(write!(out, "{height}\n")?)
 }
 
 // The end of a line.
 fn put_break(out: &mut String) -> fmt::Result
     ensures { Appends (string_bytes out.old) (codes "\n") (string_bytes out.new) result }
 {
-    write!(out, "\n")
+    Ok(write!(out, "\n")?)
 }
 
 // A height that is kept times 2^30, as the nearest number of binary64, and how far off that is at most.
@@ -62,7 +62,7 @@ pub fn put_sighting(out: &mut String, above: i64) -> fmt::Result
     if above >= 0 {
         put_seen(out, above)
     } else {
-        write!(out, "hidden\n")
+        Ok(write!(out, "hidden\n")?)
     }
 }
 
@@ -72,9 +72,9 @@ fn put_crossing(out: &mut String, crossing: Crossing) -> fmt::Result
 {
     let tick = crossing.tick;
     if crossing.rises {
-        write!(out, "rise {tick}\n")
+        Ok(write!(out, "rise {tick}\n")?)
     } else {
-        write!(out, "set {tick}\n")
+        Ok(write!(out, "set {tick}\n")?)
     }
 }
 
@@ -95,7 +95,7 @@ pub fn put_table(out: &mut String, crossings: &[Crossing]) -> fmt::Result
 fn put_span(out: &mut String, a: i32, b: i32, c: i32, d: i32) -> fmt::Result
     ensures { Appends (string_bytes out.old) (span_bytes a b c d) (string_bytes out.new) result }
 {
-    write!(out, "{a} {b} {c} {d}\n")
+    Ok(write!(out, "{a} {b} {c} {d}\n")?)
 }
 
 // Why a question is refused.
@@ -118,7 +118,7 @@ pub fn put_refusal(out: &mut String, refusal: Refusal) -> fmt::Result
     let number = refusal.number();
     let place = refusal.place();
     let why = reason(refusal);
-    write!(out, "refused {number} at {place}: {why}\n")
+    Ok(write!(out, "refused {number} at {place}: {why}\n")?)
 }
 
 // A part of the file, a line for each of its spans, or that there is none.

@@ -25,14 +25,14 @@ fn event_key(event: Event) -> &'static str
 fn put_keyed(out: &mut String, key: &str, n: i64) -> fmt::Result
     ensures { Appends (string_bytes out.old) (key.now ++ (32 ∷ signed_decimal n)) (string_bytes out.new) result }
 {
-    write!(out, "{key} {n}")
+    Ok(write!(out, "{key} {n}")?)
 }
 
 // The word `spans` and two numbers.
 fn put_spans(out: &mut String, first: i64, end: i64) -> fmt::Result
     ensures { Appends (string_bytes out.old) (order_bytes (Spans first «end»)) (string_bytes out.new) result }
 {
-    write!(out, "spans {first} {end}")
+    Ok(write!(out, "spans {first} {end}")?)
 }
 
 // An order, as it is read again by `read_order`.
@@ -45,6 +45,6 @@ pub fn put_order(out: &mut String, order: Order) -> fmt::Result
         Order::Height(tick) => put_keyed(out, "height", tick),
         Order::Spans(first, end) => put_spans(out, first, end),
         Order::Table(span) => put_keyed(out, "table", span),
-        Order::Tables => write!(out, "table"),
+        Order::Tables => Ok(write!(out, "table")?),
     }
 }

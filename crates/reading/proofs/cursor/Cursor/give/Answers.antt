@@ -12,11 +12,15 @@ onward-self-requires c =
     let v = c.args.self.now in
     rw v.stands (room (span_at v.view.numbers.now v.span) v.at (small v.view.numbers.now v.span v.inside v.view.small) c.requires)
 
-pub invariant-of-self : goal.invariant-of-self
-invariant-of-self c =
+pub invariant_of-self : goal.invariant_of-self
+invariant_of-self c =
     let v = c.args.self.now in
     let e = c.onward-self.ensures in
-    (v.inside, (omega (arith, c.requires), ((λ i. record { height = e.height i; first = e.first i; second = e.second i; third = e.third i }) ∙ ap onward v.stands ∙ onward_is 1024 (span_at v.view.numbers.now v.span) v.at, tt)))
+    record {
+      inside = v.inside;
+      short = omega (arith, c.requires);
+      stands = (λ i. record { height = e.height i; first = e.first i; second = e.second i; third = e.third i }) ∙ ap onward v.stands ∙ onward_is 1024 (span_at v.view.numbers.now v.span) v.at;
+    }
 
 pub returns : goal.returns
 returns c =

@@ -9,7 +9,7 @@ use Rattle.sight.proofs.Sighted.{sighted}
 use Rattle.sight.proofs.sight.SightSignal.evaluate.Given as given
 use Rattle.sight.proofs.sight.SightSignal.evaluate.Goals as goal
 
-seen : (g : given.Over) (c : goal.After-result·1 g) → Seen (over_level (g.S.Source.almanac c.args.self.now.source) c.args.self.now.level c.args.self.now.end) c.args.tick (le_z c.args.self.now.level c.height-height.result) (c.args.tick + c.skip-skipped.result + 1)
+seen : (g : given.Over) (c : goal.After-result-1 g) → Seen (over_level (g.S.Source.almanac c.args.self.now.source) c.args.self.now.level c.args.self.now.end) c.args.tick (le_z c.args.self.now.level c.height-height.result) (c.args.tick + c.skip-skipped.result + 1)
 seen g c =
     let m = g.S.Source.almanac c.args.self.now.source in
     let fh : SFits w64 c.height-height.result = search rules in
