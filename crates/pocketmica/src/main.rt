@@ -3,6 +3,7 @@
 
 use session::session::Session;
 use std::io::{BufRead, BufReader, Write};
+use std::process::ExitCode;
 use std::{env, fs, io};
 
 const VERSION: &str = "pocketmica 0.1.0\n";
@@ -83,15 +84,17 @@ fn feed_all<B: BufRead>(
 // One named input: a file, or standard input for `-`.
 fn feed_named(rt: &HostRuntime, session: &mut Session, name: &str) -> Result<(), Stop> {
     if name == "-" {
-        return feed_all(
-            rt,
-            session,
-            "standard input",
-            &mut BufReader::new(rt.stdin()),
-        );
+        return match BufReader::new(rt.alloc(), rt.stdin()) {
+            Ok(mut input) => feed_all(rt, session, "standard input", &mut input),
+            Err(e) => Err(failed(rt, "standard input", e)),
+        };
     }
-    match fs::open(rt, name) {
-        Ok(file) => feed_all(rt, session, name, &mut BufReader::new(file)),
+    let file = match fs::open(rt, name) {
+        Ok(file) => file,
+        Err(e) => return Err(failed(rt, name, e)),
+    };
+    match BufReader::new(rt.alloc(), file) {
+        Ok(mut input) => feed_all(rt, session, name, &mut input),
         Err(e) => Err(failed(rt, name, e)),
     }
 }
@@ -136,10 +139,11 @@ fn arguments(rt: &HostRuntime) -> io::Result<Vec<String>> {
     Ok(names)
 }
 
-fn main(rt: HostRuntime) -> Result<(), Stop> {
-    let names = match arguments(&rt) {
+// Answers what is asked for; each reason not to has been said where it belongs.
+fn answer(rt: &HostRuntime) -> Result<(), Stop> {
+    let names = match arguments(rt) {
         Ok(names) => names,
-        Err(e) => return Err(failed(&rt, "arguments", e)),
+        Err(e) => return Err(failed(rt, "arguments", e)),
     };
     if names.len() == 1 {
         let only = names[0].as_str();
@@ -152,5 +156,12 @@ fn main(rt: HostRuntime) -> Result<(), Stop> {
             return Ok(());
         }
     }
-    run(&rt, names.as_slice())
+    run(rt, names.as_slice())
+}
+
+fn main(rt: HostRuntime) -> ExitCode {
+    match answer(&rt) {
+        Ok(()) => ExitCode::SUCCESS,
+        Err(_) => ExitCode::FAILURE,
+    }
 }

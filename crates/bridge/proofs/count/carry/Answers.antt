@@ -11,7 +11,7 @@ use Rattle.bridge.proofs.count.carry.Goals as goal
 
 pub loop-moment-init : goal.loop-moment-init
 loop-moment-init c =
-    let begun = c.into-iter-moment-iterator.ensures.into-iter-gives in
+    let begun = c.into_iter-moment-iterator.ensures.into_iter_gives in
     let made = c.new-moment-items.ensures in
     let fl : SFits w64 c.args.level = c.ranges.level in
     let at-start = ap (λ (x : Stretch). tick_of x.cursor) begun ∙ made.tick in (

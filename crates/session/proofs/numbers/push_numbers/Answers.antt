@@ -23,4 +23,4 @@ loop-word-preserved c =
     let g : SFits w32 c.kept.result = search rules in
     pushed_more (vec_items c.args.numbers.now) (vec_items c.loop-word.numbers) (vec_items c.push.new.self) (words c.args.line.now) (words c.loop-word.rest.now) (words c.first_word.result.1.now) c.len-had.result c.first_word.result.0.now c.in-Some.z
     c.loop-word.invariant (c.first_word.ensures.some (omega (arith, c.if-word-eq0.false))) c.in-Some.ensures.value
-    ((simp to_z-of_z at c.in_ok-push.ensures.items) ∙ ap (λ (x : ℤ). vec_items c.loop-word.numbers ++ (x ∷ [])) (simp to_z-of_z at c.kept.ensures))
+    ((simp to_z-of_z at c.in_ok-push-in-Some.ensures.items) ∙ ap (λ (x : ℤ). vec_items c.loop-word.numbers ++ (x ∷ [])) (simp to_z-of_z at c.kept.ensures))
