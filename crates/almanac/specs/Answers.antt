@@ -15,7 +15,7 @@ use Rattle.sight.specs.Sights.{over_level}
 use Rattle.height.specs.declared.refusal.Refusal.{Refusal}
 use Rattle.almanac.specs.declared.entry.When.{When}
 use Rattle.almanac.specs.declared.entry.When.TheVariants.{At, Never, Stands, Refused}
-use Rattle.almanac.specs.Refuses.{Taken, Refuses, TickTaken}
+use Rattle.almanac.specs.Refuses.{Taken, Refuses}
 
 -- what is asked for by its number: 0 that it is above, 1 that it rises, 2 that it sets
 abbrev pub asked : ℕ → (ℕ → Bool) → ℕ → Bool

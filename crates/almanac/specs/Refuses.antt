@@ -1,5 +1,5 @@
 -- When a question is refused, and as what. The checks come in this order: the file, the line, the tick, what is asked for. Assumes nothing: these are definitions.
-use Rattle.std.specs.Prelude.{◌≡◌, ℕ, ◌*◌, ◌/◌, ◌^◌, ◌<◌, ◌≤◌, List, length, ℤ, pos, unsigned_abs}
+use Rattle.std.specs.Prelude.{◌≡◌, ℕ, ◌^◌, ◌<◌, ◌≤◌, List, ℤ, pos, unsigned_abs}
 use Rattle.height.specs.Almanacs.{ticks}
 use Rattle.height.specs.Files.{almanac_in, Good, first_beyond}
 use Rattle.height.specs.declared.refusal.Refusal.{Refusal}

@@ -1,8 +1,8 @@
 -- On which side of a level a height is, and stays. Assumes nothing.
-use Rattle.std.proofs.Common.{◌≡◌, ℕ, ◌+◌, ◌*◌, ◌<◌, ◌≤◌, Bool, true, false, ℤ, pos, ◌-ℤ◌, ◌*ℤ◌, nat_abs, ◌≤ℤ◌, sym, refl, mul-le-mul_right, arith}
+use Rattle.std.proofs.Common.{◌≡◌, ℕ, ◌+◌, ◌<◌, Bool, true, false, ℤ, pos, ◌-ℤ◌, ◌*ℤ◌, nat_abs, ◌≤ℤ◌, sym, refl, mul-le-mul_right, arith}
 use lib.Signed.{le_z}
 use borrow.Author.Differences.{ints, le_out}
-use Rattle.height.specs.Almanacs.{Almanac, height_at}
+use Rattle.height.specs.Almanacs.{height_at}
 use Rattle.height.specs.Spans.{unit, height, slope}
 use Rattle.height.proofs.Steps.{drift}
 use Rattle.height.proofs.Ticks.{height_in_span}

@@ -1,6 +1,6 @@
 -- What is promised of crossings. Each is a statement; a function of the module `theorems` has it as its contract. Assumes nothing.
 use Rattle.std.specs.Prelude.{◌≡◌, ℕ, suc, ◌+◌, ◌*◌, ◌<◌, ◌≤◌, Bool, true, false, not, List, [], ◌∷◌, length, get_or, ℤ, pos, negsuc, ◌-ℤ◌, ◌≤ℤ◌, ◌≢◌, slice_index_or, unsigned_abs}
-use Rattle.height.specs.Almanacs.{Almanac, ticks}
+use Rattle.height.specs.Almanacs.{Almanac}
 use Rattle.height.specs.Files.{almanac_in}
 use Rattle.height.specs.Spans.{height, slope}
 use Rattle.crossing.specs.declared.event.Crossing.{Crossing}

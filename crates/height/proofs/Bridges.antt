@@ -1,15 +1,14 @@
 -- The customary forms say the same. Assumes nothing.
-use Rattle.std.proofs.Common.{◌≡◌, ℕ, suc, ◌+◌, ◌-◌, ◌*◌, ◌/◌, ◌%◌, ◌^◌, ◌<◌, ◌≤◌, Bool, true, ◌&&◌, eqb, leb, ◌⊎◌, List, length, get_or, ℤ, pos, ◌+ℤ◌, ◌*ℤ◌, nat_abs, Decides, sym, refl, ap, ◌∙◌, subst, inl, inr, arith, lit<}
-use lib.Signed.{shr_z}
+use Rattle.std.proofs.Common.{◌≡◌, ℕ, ◌+◌, ◌-◌, ◌*◌, ◌/◌, ◌%◌, ◌^◌, ◌<◌, ◌≤◌, Bool, leb, List, length, get_or, ℤ, pos, ◌+ℤ◌, ◌*ℤ◌, nat_abs, Decides, refl, subst, inl, inr, arith, lit<}
 use borrow.Author.Differences.{ints}
 use Rattle.std.proofs.lemmas.Bool.{le-leb, leb-true, cases_eq}
 use Rattle.std.proofs.lemmas.Bool.Decides.{Decides-and, Decides-like, Decides-eqb, Decides-below_and}
 use Rattle.integers.proofs.Floor.{floor_is}
 use Rattle.integers.proofs.Ring.{ring}
 use Rattle.height.specs.declared.span.Span.{Span}
-use Rattle.height.specs.Almanacs.{Almanac, rounded, Meets, AllMeet}
+use Rattle.height.specs.Almanacs.{rounded, Meets}
 use Rattle.height.specs.Customary.{Nested, HalfAdded, all_below, small_span, small_almanac, CheckedBySpans, meets_next, MeetsByJoins}
-use Rattle.height.specs.Files.{almanac_in, span_at, Good}
+use Rattle.height.specs.Files.{span_at, Good}
 use Rattle.height.specs.Spans.{height, Within}
 
 nested_over : (a b c d n u : ℤ) → a *ℤ (n *ℤ (n *ℤ n)) +ℤ b *ℤ (u *ℤ (n *ℤ n)) +ℤ c *ℤ (u *ℤ (u *ℤ n)) +ℤ d *ℤ (u *ℤ (u *ℤ u)) ≡ (((a *ℤ n +ℤ b *ℤ u) *ℤ n +ℤ c *ℤ (u *ℤ u)) *ℤ n) +ℤ d *ℤ (u *ℤ (u *ℤ u))

@@ -1,5 +1,5 @@
 -- Two spans whose heights are known in every tick. Assumes nothing.
-use Rattle.std.proofs.Common.{◌≡◌, ℕ, ◌+◌, ◌-◌, ◌*◌, ◌<◌, ◌≤◌, ◌⊎◌, ℤ, pos, ◌<ℤ◌, sym, refl, ap, ◌∙◌, inl, inr, mul_comm, add-mul, mul-pos, mul-add, arith}
+use Rattle.std.proofs.Common.{◌≡◌, ℕ, ◌+◌, ◌-◌, ◌*◌, ◌<◌, pos, ◌<ℤ◌, sym, refl, ap, ◌∙◌, inl, inr, mul_comm, add-mul, mul-pos, mul-add, arith}
 use borrow.Author.Differences.{ints}
 use Rattle.std.proofs.lemmas.Bool.{cases_lt}
 use Rattle.height.specs.Promise.{Level, Touching, touching}

@@ -1,5 +1,5 @@
 -- The test whether two spans meet. Assumes nothing.
-use Rattle.std.proofs.Common.{◌≡◌, ℕ, suc, ◌+◌, ◌-◌, ◌≤◌, max, true, leb, ℤ, ◌-ℤ◌, nat_abs, Decides, sym, ap, ◌∙◌, subst, ap₂, add-one}
+use Rattle.std.proofs.Common.{◌≡◌, ℕ, suc, ◌+◌, ◌-◌, ◌≤◌, max, leb, ℤ, ◌-ℤ◌, nat_abs, Decides, sym, ap, ◌∙◌, add-one}
 use Rattle.std.proofs.lemmas.Bool.{le-leb, leb-true}
 use Rattle.height.specs.declared.span.Span.{Span}
 use Rattle.height.specs.Almanacs.{Almanac, Meets}

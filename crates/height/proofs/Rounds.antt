@@ -1,5 +1,5 @@
 -- Rounding to whole thousandths. Assumes nothing.
-use Rattle.std.proofs.Common.{◌≡◌, ℕ, ◌+◌, ◌*◌, ◌^◌, ◌<◌, ◌≤◌, ℤ, pos, ◌+ℤ◌, ◌*ℤ◌, nat_abs, sym, refl, ap, ◌∙◌, lt_of_le_of_lt, mul-pos, arith, lit<, w64, SFits, to_z, of_z}
+use Rattle.std.proofs.Common.{◌≡◌, ℕ, ◌*◌, ℤ, pos, ◌+ℤ◌, ap, ◌∙◌, lt_of_le_of_lt, mul-pos, arith, lit<, w64, SFits, to_z, of_z}
 use lib.Signed.{shr_z, mag_shr}
 use Rattle.std.proofs.lemmas.Int.{ints, to_z-of_z}
 use Rattle.integers.proofs.Floor.{floor_is}

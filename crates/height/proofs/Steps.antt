@@ -1,11 +1,11 @@
 -- How a height changes from tick to tick, and how large it gets, over n ticks a span. Assumes nothing.
-use Rattle.std.proofs.Common.{◌≡◌, ℕ, zero, suc, ◌+◌, ◌-◌, ◌*◌, ◌/◌, ◌%◌, ◌^◌, ◌<◌, ◌≤◌, max, ◌⊎◌, ℤ, ◌-ℤ◌, nat_abs, refl, ap, ◌∙◌, subst, inl, inr, add-zero, add-suc, mul-le-mul_right, mod-lt, div-lt_iff_lt-mul, mul-le-mul, mul-le-mul_left, div-add-mod', arith, lit<}
+use Rattle.std.proofs.Common.{◌≡◌, ℕ, zero, suc, ◌+◌, ◌-◌, ◌*◌, ◌/◌, ◌%◌, ◌^◌, ◌<◌, ◌≤◌, max, ◌⊎◌, ◌-ℤ◌, nat_abs, ap, ◌∙◌, subst, inl, inr, add-zero, add-suc, mul-le-mul_right, mod-lt, div-lt_iff_lt-mul, mul-le-mul, mul-le-mul_left, div-add-mod', arith}
 use native.Mathlib.Decide.{dec_lt}
 use lib.Arith.{digits_div, digits_mod}
 use borrow.Author.Differences.{up, down, ints}
 use Rattle.integers.proofs.Size.{size_parts, times_size_parts}
 use Rattle.height.specs.declared.span.Span.{Span}
-use Rattle.height.specs.Almanacs.{Almanac, ticks, height_at, AllMeet}
+use Rattle.height.specs.Almanacs.{height_at}
 use Rattle.height.specs.Promise.{Fits, Fits64, BySlope, AllTheWay}
 use Rattle.height.specs.Spans.{unit, height, slope, Within}
 

@@ -1,5 +1,5 @@
 -- The customary forms of some definitions, at 1,024 ticks a span, and that they say the same. Assumes nothing.
-use Rattle.std.specs.Prelude.{◌≡◌, ℕ, zero, suc, ◌-◌, ◌*◌, ◌/◌, ◌%◌, ◌^◌, max, Bool, true, ◌&&◌, List, length, ℤ, pos, ◌+ℤ◌, ◌-ℤ◌, ◌*ℤ◌, Decides, ◌==◌, nat_le, unsigned_abs}
+use Rattle.std.specs.Prelude.{◌≡◌, ℕ, zero, suc, ◌-◌, ◌*◌, ◌%◌, ◌^◌, max, Bool, true, ◌&&◌, List, length, ℤ, pos, ◌+ℤ◌, ◌-ℤ◌, ◌*ℤ◌, Decides, ◌==◌, nat_le, unsigned_abs}
 use Rattle.std.specs.Int.Signed.{shr_z}
 use Rattle.height.specs.declared.span.Span.{Span}
 use Rattle.height.specs.Almanacs.{Almanac, rounded, AllMeet}

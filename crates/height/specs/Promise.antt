@@ -1,5 +1,5 @@
 -- What is promised of heights, for every number n of ticks that a span has. Each is a statement; a function of the module `theorems` has it as its contract. Assumes nothing.
-use Rattle.std.specs.Prelude.{◌≡◌, ℕ, suc, ◌+◌, ◌*◌, ◌/◌, ◌^◌, ◌<◌, ◌≤◌, max, List, length, ℤ, pos, negsuc, ◌+ℤ◌, ◌-ℤ◌, ◌*ℤ◌, ◌≤ℤ◌, ◌<ℤ◌, ◌≢◌, slice_index_or, unsigned_abs}
+use Rattle.std.specs.Prelude.{◌≡◌, ℕ, suc, ◌*◌, ◌/◌, ◌^◌, ◌<◌, ◌≤◌, max, List, length, ℤ, pos, negsuc, ◌+ℤ◌, ◌-ℤ◌, ◌*ℤ◌, ◌≤ℤ◌, ◌<ℤ◌, ◌≢◌, slice_index_or, unsigned_abs}
 use Rattle.height.specs.declared.span.Span.{Span}
 use Rattle.height.specs.Almanacs.{Almanac, ticks, height_at, rounded, AllMeet}
 use Rattle.height.specs.Files.{first_beyond}

@@ -1,5 +1,5 @@
 -- ℤ is a commutative ring: the laws of `*ℤ` that the kit's library lacks, and `ring`, a set of them for `simp`, which proves identities without subtraction. Assumes nothing.
-use Rattle.std.proofs.Common.{◌≡◌, ℕ, ◌+◌, ◌*◌, ℤ, pos, ◌+ℤ◌, ◌*ℤ◌, neg_ℤ, sym, ap, ◌∙◌, ap₂, arith}
+use Rattle.std.proofs.Common.{◌≡◌, ◌+◌, ◌*◌, ℤ, pos, ◌+ℤ◌, ◌*ℤ◌, neg_ℤ, sym, ap, ◌∙◌, ap₂, arith}
 use lib.IntN.{+ℤ_comm, +ℤ_assoc, *ℤ_comm, neg_ℤ-+ℤ, neg_ℤ-neg_ℤ}
 use borrow.Author.Differences.{up, down, ints, sum_is_lem, neg_is, product_is}
 

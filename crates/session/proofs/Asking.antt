@@ -1,11 +1,11 @@
 -- A question, as a step. Assumes nothing.
-use Rattle.std.proofs.Common.{◌≡◌, ℕ, ◌^◌, Bool, true, false, cond, not, ◌||◌, leb, List, [], ◌++◌, ℤ, nat_abs, Some, None, Option, sym, refl, ap, ◌∙◌, subst, ap₂}
+use Rattle.std.proofs.Common.{◌≡◌, ℕ, ◌^◌, Bool, true, false, cond, not, ◌||◌, leb, List, [], ◌++◌, ℤ, nat_abs, Some, None, Option, refl, ap, ◌∙◌, ap₂}
 use Rattle.text.specs.declared.order.Order.{Order}
 use Rattle.text.specs.declared.order.Order.TheVariants.{Line as ForLine, First, Height, Spans, Table, Tables}
 use Rattle.height.specs.declared.refusal.Refusal.TheVariants.{Line, Text}
 use Rattle.session.specs.Held.{Answers, Replied, SetsLine}
 use Rattle.session.specs.Replies.{Reply, refuses_as, reply}
-use Rattle.session.specs.Sessions.{Phase, reading, asking, ended, State, Step, begun, begun_phase, next_line, passed, quietly, with_line, with_order, with_reply}
+use Rattle.session.specs.Sessions.{Phase, reading, asking, ended, State, begun, begun_phase, next_line, passed, quietly, with_line, with_order, with_reply}
 
 -- a state with one thing more that may be refused
 abbrev pub noted : State → Bool → State

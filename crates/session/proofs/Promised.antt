@@ -1,5 +1,5 @@
 -- What is promised of a whole run. Assumes nothing.
-use Rattle.std.proofs.Common.{◌≡◌, ℕ, ◌^◌, ◌≤◌, Bool, true, false, cond, leb, List, [], ◌∷◌, ◌++◌, ℤ, nat_abs, Some, None, Option, sym, refl, ap, ◌∙◌, append-nil}
+use Rattle.std.proofs.Common.{◌≡◌, ℕ, ◌^◌, Bool, true, false, cond, leb, List, [], ◌∷◌, ◌++◌, ℤ, nat_abs, Some, None, Option, refl, ap, ◌∙◌, append-nil}
 use Rattle.std.proofs.lemmas.Bool.{le-leb, leb-true}
 use Rattle.height.specs.declared.refusal.Refusal.TheVariants.{Line, Text}
 use Rattle.text.specs.Answers.{refusal_bytes}
@@ -7,11 +7,10 @@ use Rattle.text.specs.declared.order.Order.{Order}
 use Rattle.text.specs.declared.order.Order.TheVariants.{Line as ForLine, First, Height, Spans, Table, Tables}
 use Rattle.words.specs.Words.{words}
 use Rattle.session.specs.declared.kind.Kind.{Kind}
-use Rattle.session.specs.declared.kind.Kind.TheVariants.{Numbers}
 use Rattle.session.specs.Lines.{bare}
-use Rattle.session.specs.Promise.{Ended, Keeps, NotWhollyRead, NumbersTooLate, OrdersKeep}
+use Rattle.session.specs.Promise.{Ended, NotWhollyRead, NumbersTooLate, OrdersKeep}
 use Rattle.session.specs.Replies.{refuses_as}
-use Rattle.session.specs.Sessions.{Phase, State, Step, asking, by_kind, ended, ends, kind_of, next_line, numbers_in, numbers_of, quietly, reading, run_lines, step, unless_ended, with_line, with_numbers, with_order, with_reply}
+use Rattle.session.specs.Sessions.{Phase, State, Step, asking, by_kind, ended, ends, kind_of, next_line, numbers_in, quietly, run_lines, step, unless_ended, with_line, with_numbers, with_order, with_reply}
 
 stays : (s : State) (l : List ℕ) → s.phase ≡ ended → step s l ≡ quietly s
 stays s l e = ap (λ (p : Phase). unless_ended p s (by_kind (kind_of (words (bare l))) s (words (bare l)))) e

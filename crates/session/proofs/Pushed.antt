@@ -1,5 +1,5 @@
 -- A line's numbers, pushed one after the other. Assumes nothing.
-use Rattle.std.proofs.Common.{◌≡◌, ℕ, ◌+◌, ◌<◌, ◌≤◌, Bool, true, false, List, [], ◌∷◌, ◌++◌, length, take, ℤ, Some, None, Option, sym, refl, ap, ◌∙◌, subst, append_assoc, append-nil, arith, length-take, take_all}
+use Rattle.std.proofs.Common.{◌≡◌, ℕ, ◌≤◌, List, [], ◌∷◌, ◌++◌, length, take, ℤ, Some, None, Option, sym, refl, ap, ◌∙◌, append_assoc, append-nil, arith, length-take, take_all}
 use lib.Seq.{take-append-le}
 use Rattle.std.specs.Option.{option_map}
 use Rattle.words.specs.Numbers.{number_of}

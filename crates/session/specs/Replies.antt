@@ -1,5 +1,5 @@
 -- What is answered to an order, as text. Assumes nothing: these are definitions.
-use Rattle.std.specs.Prelude.{◌≡◌, ℕ, zero, suc, ◌+◌, ◌-◌, ◌*◌, ◌/◌, min, Bool, true, false, cond, ◌&&◌, List, [], ◌∷◌, ◌++◌, length, take, drop, ℤ, pos, negsuc, ◌*ℤ◌, Some, None, Ok, Err, Option, Result, nat_le, nat_lt}
+use Rattle.std.specs.Prelude.{◌≡◌, ℕ, zero, suc, ◌+◌, ◌-◌, ◌*◌, ◌/◌, min, Bool, true, false, cond, ◌&&◌, List, [], ◌++◌, length, take, drop, ℤ, pos, negsuc, ◌*ℤ◌, Some, None, Ok, Err, Option, Result, nat_le, nat_lt}
 use Rattle.crossing.specs.Above.{above}
 use Rattle.crossing.specs.Events.{crossings, happens}
 use Rattle.height.specs.Almanacs.{Almanac, ticks, height_at, rounded}

@@ -11,7 +11,7 @@ use Rattle.words.specs.Words.{words}
 use Rattle.session.specs.declared.kind.Kind.{Kind}
 use Rattle.session.specs.declared.kind.Kind.TheVariants.{Nothing, Numbers, Question}
 use Rattle.session.specs.Lines.{lines, bare}
-use Rattle.session.specs.Replies.{Reply, says, refuses_as, reply}
+use Rattle.session.specs.Replies.{Reply, refuses_as, reply}
 
 -- Numbers are read first, then questions are answered; a text that cannot go on has ended.
 pub data Phase : Type 0 where

@@ -1,5 +1,5 @@
 -- What a session's stage says of the numbers that it has. Assumes nothing: these are definitions.
-use Rattle.std.specs.Prelude.{ℕ, ◌%◌, Bool, true, not, ◌&&◌, List, length, ℤ, ◌==◌}
+use Rattle.std.specs.Prelude.{◌%◌, Bool, true, not, ◌&&◌, List, length, ℤ, ◌==◌}
 use Rattle.height.specs.Customary.{small_almanac}
 use Rattle.height.specs.Files.{almanac_in, first_beyond}
 use Rattle.session.specs.declared.stage.Stage.{Stage}

@@ -1,5 +1,5 @@
 -- What is evaluated in a tick of a body, and that it stays so over the ticks that are skipped. Assumes nothing.
-use Rattle.std.proofs.Common.{◌≡◌, ℕ, zero, suc, ◌+◌, ◌-◌, ◌*◌, ◌/◌, ◌%◌, ◌<◌, ◌≤◌, min, Bool, ◌⊎◌, ℤ, ◌-ℤ◌, nat_abs, sym, refl, ap, ◌∙◌, subst, ap₂, inl, inr, mod-lt, div-add-mod', arith}
+use Rattle.std.proofs.Common.{◌≡◌, ℕ, zero, suc, ◌+◌, ◌-◌, ◌*◌, ◌/◌, ◌%◌, ◌<◌, ◌≤◌, min, ℤ, ◌-ℤ◌, nat_abs, sym, ap, ◌∙◌, subst, mod-lt, div-add-mod', arith}
 use lib.Signed.{le_z}
 use Rattle.height.specs.declared.span.Span.{Span}
 use Rattle.height.specs.Almanacs.{Almanac, height_at}

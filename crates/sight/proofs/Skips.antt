@@ -1,5 +1,5 @@
 -- How many ticks may be skipped. Assumes nothing.
-use Rattle.std.proofs.Common.{◌≡◌, ℕ, zero, suc, ◌-◌, ◌*◌, ◌/◌, ◌<◌, ◌≤◌, min, refl, mul-le-mul_right, le-div_iff_mul-le, div-mul-le_self, arith}
+use Rattle.std.proofs.Common.{◌≡◌, ℕ, zero, suc, ◌-◌, ◌*◌, ◌/◌, ◌<◌, min, refl, mul-le-mul_right, le-div_iff_mul-le, div-mul-le_self, arith}
 use Rattle.sight.specs.Promise.{SkipsMost}
 use Rattle.sight.specs.Sights.{skip}
 

@@ -1,13 +1,11 @@
 -- Orders, as they are written, are read as they were. Assumes nothing.
-use Rattle.std.proofs.Common.{◌≡◌, ℕ, ◌^◌, ◌<◌, true, List, [], ◌∷◌, ◌++◌, length, ℤ, nat_abs, Some, None, codes, Option, sym, refl, ap, ◌∙◌, ap₂, arith, lit<}
+use Rattle.std.proofs.Common.{◌≡◌, ℕ, ◌<◌, true, List, [], ◌∷◌, ◌++◌, length, ℤ, Some, codes, Option, refl, ap, ◌∙◌, ap₂, arith, lit<}
 use Rattle.std.specs.Fmt.{signed_decimal}
-use Rattle.crossing.specs.declared.event.Event.{Event}
 use Rattle.crossing.specs.declared.event.Event.TheVariants.{Above, Rise, Set}
-use Rattle.text.specs.Orders.{order_of, order_bytes, after_one, after_two, keyed, with_one, with_two}
+use Rattle.text.specs.Orders.{order_of, keyed, with_one, with_two}
 use Rattle.text.specs.Promise.{Short, OrdersBack}
 use Rattle.text.specs.declared.order.Order.{Order}
 use Rattle.text.specs.declared.order.Order.TheVariants.{Line, First, Height, Spans, Table, Tables}
-use Rattle.words.specs.Numbers.{number_of}
 use Rattle.words.specs.Words.{words}
 use Rattle.words.proofs.Backs.{read_back}
 use Rattle.words.proofs.Solid.{Solid, solid, solid_by, words_front, words_last, signed_word}

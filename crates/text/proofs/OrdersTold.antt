@@ -1,9 +1,9 @@
 -- Only the words of an order are read as it. Assumes nothing.
-use Rattle.std.proofs.Common.{◌≡◌, ℕ, Bool, true, false, cond, List, [], ◌∷◌, ℤ, Some, None, codes, Decides, Option, sym, refl, ap, ◌∙◌, subst}
+use Rattle.std.proofs.Common.{◌≡◌, ℕ, Bool, true, false, cond, List, [], ◌∷◌, ℤ, Some, None, codes, Decides, Option, refl, ap, ◌∙◌, subst}
 use Rattle.std.specs.Str.{bytes_eq}
 use Rattle.std.proofs.lemmas.Slice.Eq.{bytes_eq-Decides}
 use Rattle.crossing.specs.declared.event.Event.TheVariants.{Above, Rise, Set}
-use Rattle.text.specs.Orders.{order_of, keyed, keyed_alone, keyed_twice, after_one, after_two, with_one, with_two, key, values, Are, Say}
+use Rattle.text.specs.Orders.{keyed, with_one, with_two, key, values, Are, Say}
 use Rattle.text.specs.Promise.{OrdersTold}
 use Rattle.text.specs.declared.order.Order.{Order}
 use Rattle.text.specs.declared.order.Order.TheVariants.{Line, First, Height, Spans, Table, Tables}

@@ -1,6 +1,5 @@
 -- What is written is read as it was. Assumes nothing.
-use Rattle.std.specs.Prelude.{◌≡◌, ℕ, ◌^◌, ◌<◌, List, ℤ, pos, Some, None, Option, unsigned_abs}
-use Rattle.crossing.specs.declared.event.Crossing.{Crossing}
+use Rattle.std.specs.Prelude.{◌≡◌, ℕ, ◌^◌, ◌<◌, List, ℤ, Some, unsigned_abs}
 use Rattle.text.specs.Orders.{order_of, order_bytes, Say}
 use Rattle.text.specs.declared.order.Order.{Order}
 use Rattle.text.specs.declared.order.Order.TheVariants.{Line, First, Height, Spans, Table, Tables}

@@ -1,12 +1,10 @@
 -- What is written is read as it was. Assumes nothing.
-use Rattle.std.proofs.Common.{◌≡◌, ℕ, zero, suc, ◌^◌, ◌<◌, ◌≤◌, Bool, true, false, cond, eqb, List, [], ◌∷◌, length, get_or, drop, ℤ, pos, negsuc, neg_ℤ, nat_abs, Some, None, decimal, Option, sym, refl, ap, ◌∙◌, arith, lit<, rules}
-use Rattle.std.specs.Option.{option_map}
-use Rattle.std.specs.Fmt.{signed_decimal}
+use Rattle.std.proofs.Common.{◌≡◌, ℕ, suc, ◌^◌, ◌<◌, true, false, ◌∷◌, length, get_or, pos, negsuc, Some, decimal, sym, refl, ap, ◌∙◌, arith, lit<, rules}
 use Rattle.std.specs.Str.{all_ascii_digits}
 use Rattle.std.proofs.lemmas.Fmt.{digits_decimal, digits_value-decimal, length-decimal-le, decimal_nonempty}
 use Rattle.std.proofs.lemmas.Str.Parse.{IsNumeralModel, numerals_by_fold, tells_all_ascii_digits, not_in_digits}
 use Rattle.std.proofs.lemmas.Bool.{and_from, lt-ltb, cond-true, ne_eqb}
-use Rattle.words.specs.Numbers.{read_on, figures_of, minus_first, number_of}
+use Rattle.words.specs.Numbers.{read_on, figures_of, minus_first}
 use Rattle.words.specs.Promise.{ReadBack}
 use Rattle.words.proofs.Signs.{with_minus, without_minus}
 

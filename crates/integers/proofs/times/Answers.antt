@@ -1,5 +1,5 @@
 -- Every product of an i32 and a u32 fits an i64.
-use Rattle.std.proofs.Common.{◌≡◌, ◌^◌, ◌<◌, ℤ, ap, ◌∙◌, w64, to_z, of_z, rules}
+use Rattle.std.proofs.Common.{◌^◌, ◌<◌, ℤ, ap, ◌∙◌, w64, to_z, of_z, rules}
 use Rattle.std.proofs.lemmas.Int.{to_z-of_z}
 use Rattle.integers.proofs.Cast.{product_fits, product_code}
 use Rattle.integers.proofs.times.Goals as goal

@@ -1,4 +1,4 @@
-use Rattle.std.proofs.Common.{ℕ, suc, ◌<◌}
+use Rattle.std.proofs.Common.{ℕ, ◌<◌}
 use Rattle.height.specs.Almanacs.{Meets}
 use Rattle.height.proofs.join.first_gap.Given as goal
 

@@ -1,5 +1,4 @@
-use Rattle.std.proofs.Common.{◌≡◌, ◌^◌, ◌<◌, ◌≤◌, get_or, pos, nat_abs, sym, ap, arith, rules}
-use Rattle.std.proofs.lemmas.Int.{to_z-of_z, ints}
+use Rattle.std.proofs.Common.{◌^◌, ◌<◌, get_or, pos, nat_abs, sym, ap, arith, rules}
 use Rattle.std.proofs.lemmas.Bool.{ltb-true, both_ways}
 use Rattle.height.specs.declared.refusal.Refusal.TheVariants.{File}
 use Rattle.height.proofs.Places.{first_beyond_at, first_beyond_none}

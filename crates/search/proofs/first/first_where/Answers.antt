@@ -1,4 +1,4 @@
-use Rattle.std.proofs.Common.{◌≡◌, ◌+◌, sym, ◌∙◌, arith}
+use Rattle.std.proofs.Common.{◌+◌, sym, ◌∙◌, arith}
 use Rattle.search.proofs.Steps.{pass_on, seen_not, agrees, after_more, walked_here}
 use Rattle.search.proofs.first.first_where.Goals as goal
 

@@ -1,4 +1,4 @@
-use Rattle.std.proofs.Common.{◌≡◌, ◌-◌, vec_items, sym, refl, ap, ◌∙◌, arith}
+use Rattle.std.proofs.Common.{◌≡◌, ◌-◌, vec_items, refl, ap, ◌∙◌, arith}
 use Rattle.crossing.specs.Events.{crossings}
 use Rattle.search.proofs.Collecting.{collected_start, collected_none, collected_one}
 use Rattle.search.proofs.list.crossings.Goals as goal

@@ -1,4 +1,4 @@
-use Rattle.std.proofs.Common.{◌≡◌, [], ◌∷◌, ◌++◌, ℤ, vec_items, ap, ◌∙◌, arith, w32, w64, SFits, rules}
+use Rattle.std.proofs.Common.{[], ◌∷◌, ◌++◌, ℤ, vec_items, ap, ◌∙◌, arith, w32, w64, SFits, rules}
 use Rattle.std.proofs.lemmas.Int.{to_z-of_z}
 use Rattle.words.specs.Words.{words}
 use Rattle.session.proofs.Pushed.{pushed_start, pushed_more, pushed_all, pushed_none}

@@ -1,4 +1,4 @@
-use Rattle.std.proofs.Common.{◌≡◌, string_bytes, ap, ◌∙◌, arith}
+use Rattle.std.proofs.Common.{string_bytes, ap, ◌∙◌, arith}
 use Rattle.session.specs.Held.{state_of}
 use Rattle.session.specs.Sessions.{State}
 use Rattle.session.proofs.Cutting.{running_more, running_ends}

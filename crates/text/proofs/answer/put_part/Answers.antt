@@ -1,4 +1,4 @@
-use Rattle.std.proofs.Common.{◌+◌, ◌*◌, ◌++◌, get_or, pos, string_bytes, arith, w32, SFits, rules}
+use Rattle.std.proofs.Common.{◌+◌, ◌*◌, get_or, pos, string_bytes, arith, w32, SFits, rules}
 use Rattle.std.proofs.lemmas.Int.{to_z-of_z}
 use Rattle.text.proofs.Writing.{part_more, part_all}
 use Rattle.text.proofs.answer.put_part.Goals as goal

@@ -1,5 +1,4 @@
-use Rattle.std.proofs.Common.{false, ◌++◌, string_bytes, arith}
-use Rattle.text.specs.Answers.{crossings_bytes}
+use Rattle.std.proofs.Common.{false, string_bytes, arith}
 use Rattle.text.proofs.Writing.{table_more, table_all}
 use Rattle.text.proofs.answer.put_table.Goals as goal
 

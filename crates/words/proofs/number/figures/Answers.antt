@@ -1,4 +1,4 @@
-use Rattle.std.proofs.Common.{◌≡◌, ◌<◌, ◌≤◌, ◌⊎◌, length, get_or, None, sym, ◌∙◌, inl, inr, arith, rules}
+use Rattle.std.proofs.Common.{◌≡◌, ◌<◌, ◌≤◌, ◌⊎◌, length, get_or, None, sym, ◌∙◌, inl, inr, arith}
 use Rattle.words.specs.Numbers.{figures_of}
 use Rattle.words.proofs.Figures.{reading_more, reading_stops, reading_ends, reading_fits, reading_small, digit_le, too_short, too_long}
 use Rattle.words.proofs.number.figures.Goals as goal

@@ -1,4 +1,4 @@
-use Rattle.std.proofs.Common.{◌≡◌, ◌∙◌, arith, ltb→lt}
+use Rattle.std.proofs.Common.{◌∙◌, ltb→lt}
 use Rattle.std.proofs.lemmas.Bool.{le-ltb}
 use Rattle.words.proofs.Signs.{empty_plain}
 use Rattle.words.proofs.number.has_minus.Goals as goal

@@ -1,4 +1,4 @@
-use Rattle.std.proofs.Common.{◌≡◌, ℕ, ◌*◌, ◌^◌, ◌<◌, ◌≤◌, ℤ, pos, ◌+ℤ◌, ◌*ℤ◌, nat_abs, ap, ◌∙◌, arith, lit≤}
+use Rattle.std.proofs.Common.{◌≡◌, ℕ, ◌*◌, ◌^◌, ◌≤◌, pos, ◌+ℤ◌, ◌*ℤ◌, nat_abs, ap, ◌∙◌, arith, lit≤}
 use Rattle.height.specs.Spans.{height}
 use Rattle.height.proofs.Sums.{square_le, cube_le, product, sum_fits, sums_fit, sums_code, sums_size}
 use Rattle.height.proofs.span.Span.height.Goals as goal

@@ -1,4 +1,4 @@
-use Rattle.std.proofs.Common.{◌≡◌, ◌+◌, ◌*◌, ◌^◌, ◌≤◌, ℤ, pos, ◌+ℤ◌, ◌*ℤ◌, nat_abs, sym, ◌∙◌, arith, lit≤}
+use Rattle.std.proofs.Common.{◌≡◌, ◌+◌, ◌*◌, ◌^◌, ◌≤◌, pos, ◌+ℤ◌, ◌*ℤ◌, nat_abs, sym, ◌∙◌, arith, lit≤}
 use Rattle.height.proofs.Sums.{square_le, product, sum_fits}
 use Rattle.reading.proofs.Rises.{first_is, second_is, third_is}
 use Rattle.reading.proofs.Sums.{two_code, three_fit, three_code, alone}

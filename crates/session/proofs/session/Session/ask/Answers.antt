@@ -1,4 +1,4 @@
-use Rattle.std.proofs.Common.{◌≡◌, Bool, ◌||◌, string_bytes, ap, ◌∙◌, subst}
+use Rattle.std.proofs.Common.{Bool, string_bytes, ap, ◌∙◌, subst}
 use Rattle.text.specs.Orders.{order_of}
 use Rattle.words.specs.Words.{words}
 use Rattle.session.specs.Held.{Answers, state_of}

@@ -1,4 +1,4 @@
-use Rattle.std.proofs.Common.{◌≡◌, true, List, ℤ, vec_items, sym, subst}
+use Rattle.std.proofs.Common.{◌≡◌, true, vec_items, sym, subst}
 use Rattle.height.specs.Files.{Good}
 use Rattle.session.specs.Stages.{stage_fits}
 use Rattle.session.specs.declared.stage.Stage.{Stage}
