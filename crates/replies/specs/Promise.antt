@@ -27,7 +27,7 @@ AnswersBack = ((s : Said) → Answered s → AllShort (numbers s) → said_of (w
 abbrev pub AnswersTold : Type 0
 AnswersTold = (ws : List (List ℕ)) (s : Said) → said_of ws ≡ Some s → Says s ws
 
--- what the program writes is such lines, each with a line break
+-- what the crate `text` writes is such lines, each with a line break
 pub record LinesSaid : Type 0 where
   pub tick : (t : ℕ) → tick_bytes (Some t) ≡ said_bytes (Number (pos t)) ++ codes "\n"
   pub no_tick : tick_bytes None ≡ said_bytes Nothing ++ codes "\n"

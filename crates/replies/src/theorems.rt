@@ -6,7 +6,7 @@ pub fn written_answers_are_read()
     ensures { AnswersBack }
 {}
 
-// What the program writes is such lines, each with a line break.
+// What the crate `text` writes is such lines, each with a line break.
 pub fn lines_are_answers()
     ensures { LinesSaid }
 {}
