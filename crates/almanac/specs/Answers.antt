@@ -1,8 +1,8 @@
 -- What is answered. Assumes nothing: these are definitions.
-use Rattle.std.specs.Prelude.{◌≡◌, ℕ, zero, suc, ◌-◌, ◌<◌, ◌≤◌, min, Bool, true, false, cond, List, length, ℤ, pos, ◌*ℤ◌, Some, None, Option, nat_lt}
+use Rattle.std.specs.Prelude.{◌≡◌, ℕ, zero, suc, ◌-◌, min, Bool, true, List, length, ℤ, pos, ◌*ℤ◌, Some, None, Option}
 use Rattle.std.specs.Option.{unwrap_or}
 use Rattle.crossing.specs.Above.{above, rises, sets}
-use Rattle.crossing.specs.Events.{crossings}
+use Rattle.crossing.specs.Events.{crossings, event_number, happens}
 use Rattle.crossing.specs.declared.event.Crossing.{Crossing}
 use Rattle.crossing.specs.declared.event.Event.{Event}
 use Rattle.height.specs.Almanacs.{Almanac, ticks, height_at, rounded}
@@ -10,7 +10,7 @@ use Rattle.height.specs.Files.{almanac_in, Good}
 use Rattle.height.specs.Refusals.{refusal_number}
 use Rattle.height.specs.Spans.{unit}
 use Rattle.reading.specs.Parts.{PartOf}
-use Rattle.search.specs.Walks.{Steps, Walked, start_for, wanted_for}
+use Rattle.search.specs.Walks.{First, Steps, Walked, start_for, wanted_for}
 use Rattle.sight.specs.Sights.{over_level}
 use Rattle.height.specs.declared.refusal.Refusal.{Refusal}
 use Rattle.almanac.specs.declared.entry.When.{When}
@@ -24,13 +24,8 @@ asked (suc zero) f = rises f
 asked (suc (suc n)) f = sets f
 
 -- The answer to "from tick t on, when is f first so", before the end: a tick in which it is so, and in none from t before it; or that it is so in none.
-abbrev pub SaysFirst : (f : ℕ → Bool) (t stop : ℕ) → Option ℕ → Type 0
-SaysFirst f t stop (Some r) = (t ≤ r) × (r < stop) × (f r ≡ true) × ((u : ℕ) → t ≤ u → u < r → f u ≡ false)
-SaysFirst f t stop None = (u : ℕ) → t ≤ u → u < stop → f u ≡ false
-
--- a tick that was found before the end, or none
-abbrev pub before : (r stop : ℕ) → Option ℕ
-before r stop = cond (nat_lt r stop) (Some r) None
+abbrev pub SaysFirst : (f : ℕ → Bool) (t stop : ℕ) (tick : Option ℕ) → Type 0
+SaysFirst f t stop tick = First f true t stop tick
 
 -- How many heights were worked out for it: one for each tick of the walk that the skip rule gives, from the tick asked from, or the one before it, up to the tick found.
 abbrev pub CountsFirst : (m : Almanac) (line : ℤ) (event : Event) (t : ℕ) (tick : Option ℕ) (n : ℕ) → Type 0
@@ -42,6 +37,14 @@ abbrev pub ListsCrossings : (m : Almanac) (line : ℤ) (t end : ℕ) (cs : List 
 ListsCrossings m line t end cs n =
     (cs ≡ crossings (above m line) t (min end (ticks m) - t))
     × Steps (over_level m (line *ℤ pos (unit m.fine)) (min end (ticks m))) (t - 1) t n
+
+-- the first tick of an event that is asked for by its number, and how many heights were worked out for it
+pub record FirstAsked (xs : List ℤ) (line : ℤ) (t what : ℕ) (tick : Option ℕ) (n : ℕ) : Type 0 where
+  pub taken : Taken xs line t what
+  pub event : Event
+  pub by_number : event_number event ≡ what
+  pub first : SaysFirst (happens event (above (almanac_in 1024 xs) line)) t (ticks (almanac_in 1024 xs)) tick
+  pub counted : CountsFirst (almanac_in 1024 xs) line event t tick n
 
 -- the first tick, by the entry over numbers: a question that is taken is answered, and any other is refused by number
 abbrev pub FirstSays : (xs : List ℤ) (line : ℤ) (t what : ℕ) → When → Type 0

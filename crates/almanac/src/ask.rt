@@ -1,6 +1,6 @@
 // What an almanac answers.
-ghost use Rattle.std.specs.Prelude.{◌≡◌, ◌^◌, ◌≤◌, pos, ◌*ℤ◌, Ok, Err, unsigned_abs};
-ghost use Rattle.almanac.specs.Answers.{CountsFirst, ListsCrossings, SaysFirst, before};
+ghost use Rattle.std.specs.Prelude.{◌≡◌, ◌≤◌, pos, Ok, Err};
+ghost use Rattle.almanac.specs.Answers.{CountsFirst, ListsCrossings, SaysFirst};
 ghost use Rattle.almanac.specs.Doors.{numbers_of};
 ghost use Rattle.almanac.specs.Refuses.{LineTaken, Refuses, TickTaken};
 ghost use Rattle.crossing.specs.Above.{above};
@@ -10,17 +10,19 @@ ghost use Rattle.height.specs.Files.{Good, almanac_in};
 ghost use Rattle.almanac.specs.declared.ask.Fault.TheVariants.{Memory, Refused};
 
 use super::almanac::Almanac;
-use super::check::{check_line, check_tick};
+use super::check::check_tick;
 use crossing::event::Event;
 use height::file::View;
+use height::line::Line;
 use height::meter::Meter;
 use height::refusal::Refusal;
 use height::round::rounded;
-use height::source::{height, ticks};
-use search::first::{Found, first_event};
+use height::source::Source;
+use search::first::first_event;
 use search::list::{Listing, crossings};
 use sight::sight::Sight;
 use std::alloc::{AllocError, Global};
+use std::fmt;
 
 // The first tick, if there is one, and how many heights were worked out to find it.
 #[derive(Clone, Copy, PartialEq, Eq, Debug)]
@@ -52,15 +54,12 @@ impl From<AllocError> for Fault {
     }
 }
 
-// What a height is multiplied by.
-const UNIT: i64 = 1 << 30;
+impl From<fmt::Error> for Fault {
+    ghost from_gives = { λ _ r. r ≡ Memory };
 
-// A line as a level: a height that is kept times 2^30.
-fn level_of(line: i64) -> i64
-    requires { unsigned_abs line ≤ 2 ^ 24 }
-    ensures { result ≡ line *ℤ pos 1073741824 }
-{
-    line * UNIT
+    fn from(_e: fmt::Error) -> Fault {
+        Fault::Memory
+    }
 }
 
 impl<'a> Almanac<'a> {
@@ -79,7 +78,7 @@ impl<'a> Almanac<'a> {
         ensures value { result ≡ ticks_of (almanac_in 1024 (numbers_of self.now)) }
         ensures few { result ≤ 4194304 }
     {
-        ticks(&self.view)
+        self.view.ticks()
     }
 
     // The height in a tick, in whole thousandths.
@@ -88,7 +87,7 @@ impl<'a> Almanac<'a> {
     {
         check_tick(tick, self.ticks())?;
         let mut meter = Meter::new();
-        Ok(rounded(height(&self.view, tick, &mut meter)))
+        Ok(rounded(self.view.height(tick, &mut meter)))
     }
 
     // From a tick on, the first one in which it is above the line, rises or sets.
@@ -96,11 +95,14 @@ impl<'a> Almanac<'a> {
         ensures { elim result [ Ok a ↦ LineTaken line × TickTaken (numbers_of self.now) «from» × SaysFirst (happens event (above (almanac_in 1024 (numbers_of self.now)) line)) «from» (ticks_of (almanac_in 1024 (numbers_of self.now))) a.tick × CountsFirst (almanac_in 1024 (numbers_of self.now)) line event «from» a.tick a.evaluations | Err e ↦ Refuses (numbers_of self.now) line «from» (event_number event) e ] }
     {
         let end = self.ticks();
-        check_line(line)?;
+        let line = Line::try_from(line)?;
         check_tick(from, end)?;
-        let sight = Sight::new(self.view, level_of(line), end);
+        let sight = Sight::new(self.view, line.level(), end);
         let found = first_event(&sight, event, from);
-        Ok(answer(found, end))
+        Ok(First {
+            tick: found.tick,
+            evaluations: found.evaluations,
+        })
     }
 }
 
@@ -109,25 +111,9 @@ impl<'a> Almanac<'a> {
     pub fn crossings(&self, heap: Global, line: i64, from: u64, end: u64) -> Result<Listing, Fault>
         ensures { elim result [ Ok l ↦ LineTaken line × TickTaken (numbers_of self.now) «from» × ListsCrossings (almanac_in 1024 (numbers_of self.now)) line «from» «end» l.crossings.items l.evaluations | Err f ↦ elim f [ Refused e ↦ Refuses (numbers_of self.now) line «from» 0 e | Memory ↦ Unit {0} ] ] }
     {
-        check_line(line)?;
+        let line = Line::try_from(line)?;
         check_tick(from, self.ticks())?;
-        let sight = Sight::new(self.view, level_of(line), end);
+        let sight = Sight::new(self.view, line.level(), end);
         Ok(crossings(heap, &sight, from)?)
-    }
-}
-
-// What was found, as an answer: a tick before the end, or none.
-fn answer(found: Found, end: u64) -> First
-    ensures tick { result.tick ≡ before found.tick «end» }
-    ensures evaluations { result.evaluations ≡ found.evaluations }
-{
-    let tick = if found.tick < end {
-        Some(found.tick)
-    } else {
-        None
-    };
-    First {
-        tick,
-        evaluations: found.evaluations,
     }
 }

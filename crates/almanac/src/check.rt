@@ -1,16 +1,16 @@
 // Lines and ticks that are not taken.
 ghost use Rattle.std.specs.Prelude.{◌≡◌, ◌^◌, ◌<◌, ◌≤◌, pos, Ok, Err, unsigned_abs};
-ghost use Rattle.height.specs.declared.refusal.Refusal.TheVariants.{Line, Tick};
+ghost use Rattle.height.specs.declared.refusal.Refusal.TheVariants.{Line as refused_line, Tick};
 
+use height::line::Line;
 use height::refusal::Refusal;
-use height::span::Span;
 
 // A line within 2^24 either way is taken.
 pub fn check_line(line: i64) -> Result<(), Refusal>
-    ensures { elim result [ Ok _ ↦ unsigned_abs line ≤ 2 ^ 24 | Err e ↦ (unsigned_abs line ≤ 2 ^ 24 → ⊥) × (e ≡ Line) ] }
+    ensures { elim result [ Ok _ ↦ unsigned_abs line ≤ 2 ^ 24 | Err e ↦ (unsigned_abs line ≤ 2 ^ 24 → ⊥) × (e ≡ refused_line) ] }
 {
-    let far = line.unsigned_abs() > Span::BOUND as u64;
-    if far { Err(Refusal::Line) } else { Ok(()) }
+    Line::try_from(line)?;
+    Ok(())
 }
 
 // A tick of so many is taken.

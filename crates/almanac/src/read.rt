@@ -8,10 +8,11 @@ ghost use Rattle.reading.specs.Readings.{Nears, Sights, above_line};
 ghost use Rattle.std.specs.Prelude.{◌≡◌, ◌^◌, ◌<◌, pos, Ok, Err, unsigned_abs};
 
 use super::almanac::Almanac;
-use super::check::{check_line, check_tick};
+use super::check::check_tick;
+use height::line::Line;
 use height::meter::Meter;
 use height::refusal::Refusal;
-use height::source::height;
+use height::source::Source;
 use reading::answer::{Near, Sighting};
 use reading::near::near;
 use reading::part::part;
@@ -24,14 +25,14 @@ impl<'a> Almanac<'a> {
     {
         check_tick(tick, self.ticks())?;
         let mut meter = Meter::new();
-        Ok(height(&self.view, tick, &mut meter))
+        Ok(self.view.height(tick, &mut meter))
     }
 
     // How far the height in a tick is above a line, exact: times 2^30.
     pub fn exact_above(&self, line: i64, tick: u64) -> Result<i64, Refusal>
         ensures { elim result [ Ok h ↦ LineTaken line × TickTaken (numbers_of self.now) tick × (h ≡ above_line (height_at (almanac_in 1024 (numbers_of self.now)) tick) line) × (unsigned_abs h < 2 ^ 59) | Err e ↦ Refuses (numbers_of self.now) line tick 0 e ] }
     {
-        check_line(line)?;
+        let line = Line::try_from(line)?;
         check_tick(tick, self.ticks())?;
         Ok(above(&self.view, line, tick))
     }
@@ -48,7 +49,7 @@ impl<'a> Almanac<'a> {
     pub fn sighting(&self, line: i64, tick: u64) -> Result<Sighting, Refusal>
         ensures { elim result [ Ok x ↦ LineTaken line × TickTaken (numbers_of self.now) tick × Sights (height_at (almanac_in 1024 (numbers_of self.now)) tick) line x | Err e ↦ Refuses (numbers_of self.now) line tick 0 e ] }
     {
-        check_line(line)?;
+        let line = Line::try_from(line)?;
         check_tick(tick, self.ticks())?;
         Ok(sighting(&self.view, line, tick))
     }

@@ -7,7 +7,7 @@ pub mod random;
 
 #[cfg(test)]
 mod tests {
-    use super::heights::{HEIGHTS, WIDTH};
+    use super::heights::{Case, HEIGHTS};
     use super::random::Dice;
     use almanac::almanac::Almanac;
     use almanac::entry::{When, first_of, height_of, spans_of, tick_of};
@@ -16,7 +16,7 @@ mod tests {
     use height::join::first_gap;
     use height::refusal::Refusal;
     use height::round::rounded;
-    use height::source::ticks;
+    use height::source::Source;
     use height::view::check as check_file;
     use sight::every::first_of_every;
     use std::alloc::Global;
@@ -29,39 +29,24 @@ mod tests {
     ];
 
     fn exact(numbers: &[i32], tick: u64) -> Result<i64, Refusal> {
-        check_file(numbers)?;
-        Almanac::new(numbers).exact(tick)
+        Almanac::try_from(numbers)?.exact(tick)
     }
 
     // One case of the table.
-    fn height_case(rt: &impl Abort, case: &[i64]) -> Result<(), Fail> {
-        assert!(rt; case.len() == WIDTH);
-        let numbers = [
-            narrow(case[0])?,
-            narrow(case[1])?,
-            narrow(case[2])?,
-            narrow(case[3])?,
-        ];
-        let tick = case[4].unsigned_abs();
-        assert_eq!(rt; exact(&numbers, tick), Ok(case[5]));
-        assert_eq!(rt; rounded(case[5]), case[6]);
-        assert_eq!(rt; height_of(&numbers, tick), When::Stands(case[6]));
-        Ok(())
-    }
-
-    fn narrow(x: i64) -> Result<i32, Fail> {
-        match i32::try_from(x) {
-            Ok(x) => Ok(x),
-            Err(_) => Err(Fail::new("a number of the table is too large")),
-        }
+    fn height_case(rt: &impl Abort, case: &Case) {
+        assert_eq!(rt; exact(&case.span, case.tick), Ok(case.exact));
+        assert_eq!(rt; rounded(case.exact), case.rounded);
+        assert_eq!(rt;
+            height_of(&case.span, case.tick),
+            When::Stands(case.rounded)
+        );
     }
 
     #[test]
-    fn heights(rt: HostRuntime) -> Result<(), Fail> {
-        for case in HEIGHTS.chunks_exact(WIDTH) {
-            height_case(&rt, case)?;
+    fn heights(rt: HostRuntime) {
+        for case in &HEIGHTS {
+            height_case(&rt, case);
         }
-        Ok(())
     }
 
     #[test]
@@ -141,8 +126,7 @@ mod tests {
     }
 
     fn gap(numbers: &[i32]) -> Result<Option<u64>, Refusal> {
-        check_file(numbers)?;
-        Ok(first_gap(&View::new(numbers)))
+        Ok(first_gap(&View::try_from(numbers)?))
     }
 
     #[test]
@@ -163,34 +147,26 @@ mod tests {
         event: Event,
         from: u64,
     ) -> Result<(), Fail> {
-        if check_file(numbers).is_err() {
-            return Err(Fail::new("a good file was refused"));
-        }
-        let view = View::new(numbers);
-        assert!(rt; from < ticks(&view));
-        let end = ticks(&view);
+        let view = View::try_from(numbers)?;
+        assert!(rt; from < view.ticks());
         let every = first_of_every(&view, line.wrapping_mul(1_073_741_824), event, from);
-        let expected = if every < end {
-            When::At(every)
-        } else {
-            When::Never
+        let expected = match every {
+            Some(tick) => When::At(tick),
+            None => When::Never,
         };
-        assert_eq!(rt; first_of(numbers, line, from, event.number()), expected);
+        assert_eq!(rt; first_of(numbers, line, from, u64::from(event)), expected);
         Ok(())
     }
 
-    // A file of two spans: small numbers, large ones, level spans, or a jump to the line at the join.
-    fn file(dice: &mut Dice, kind: u64) -> [i32; 8] {
-        let size: u32 = match kind {
-            0 => 3,
-            1 => 40,
-            2 => 16_777_216,
-            _ => 0,
-        };
+    // The largest numbers of a file: small ones, large ones, or level spans, with a jump to the line at the join.
+    const SIZES: [u32; 4] = [3, 40, 16_777_216, 0];
+
+    // A file of two spans, of numbers up to a size.
+    fn file(dice: &mut Dice, size: u32) -> [i32; 8] {
         let level = dice.within(2);
         let mut numbers = [0; 8];
-        for i in 0..8 {
-            numbers[i] = if i % 4 == 0 { level } else { dice.within(size) };
+        for (i, number) in numbers.iter_mut().enumerate() {
+            *number = if i % 4 == 0 { level } else { dice.within(size) };
         }
         numbers
     }
@@ -198,8 +174,8 @@ mod tests {
     #[test]
     fn random_questions(rt: HostRuntime) -> Result<(), Fail> {
         let mut dice = Dice::new(2026);
-        for turn in 0..3000u64 {
-            let numbers = file(&mut dice, turn % 4);
+        for turn in 0..3000 {
+            let numbers = file(&mut dice, SIZES[turn % 4]);
             let line = dice.within(2) as i64;
             let from = dice.below(2048);
             for event in [Event::Above, Event::Rise, Event::Set] {

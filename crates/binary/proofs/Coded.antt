@@ -1,17 +1,18 @@
 -- From the numbers that the code works out to those of specs/Nearest.antt.
-use Rattle.std.proofs.Common.{◌≡◌, ℕ, zero, suc, ◌+◌, ◌-◌, ◌*◌, ◌/◌, ◌%◌, ◌^◌, ◌<◌, ◌≤◌, true, false, ℤ, pos, negsuc, ◌-ℤ◌, neg_ℤ, nat_abs, sym, refl, ap, ◌∙◌, subst, lt_of_lt_of_le, lt_of_le_of_lt, div-le_self, arith, lit≤, pow_pos, w64, SFits, to_z, of_z}
+use Rattle.std.proofs.Common.{◌≡◌, ℕ, zero, suc, ◌+◌, ◌-◌, ◌*◌, ◌/◌, ◌%◌, ◌^◌, ◌<◌, ◌≤◌, true, false, T, not, ℤ, pos, negsuc, ◌-ℤ◌, neg_ℤ, nat_abs, sym, refl, ap, ◌∙◌, subst, lt_of_lt_of_le, lt_of_le_of_lt, div-le_self, arith, lit≤, pow_pos, SFits, to_z, of_z}
 use Prim.Native.Nat.{compare}
 use lib.Bits.{bit_and}
 use lib.Signed.{lt_z}
-use lib.Ieee.{Float, fin, binary64, size, nearest, neg, div, of_int, of_bits}
+use lib.Ieee.{Float, fin, binary64, size, nearest, neg, div, nan_bits, of_int, of_bits}
 use lib.Ieee.Digits.{size-le, size_reaches}
 use mir.Syntax.{w128}
 use Rattle.std.proofs.lemmas.Nat.{one_shl, and_mask, and_le_l}
+use Rattle.std.proofs.lemmas.Float.{not_nan_f64_bits}
 use Rattle.std.proofs.lemmas.Int.{ints, to_z-of_z}
 use Rattle.binary.specs.Nearest.{nearest_over, leading, rounded, IsOver, RoundedOver, leading_one, half_place}
 use Rattle.binary.specs.Promise.{Within}
 use Rattle.binary.proofs.Leading.{at_most}
-use Rattle.binary.proofs.Over.{quotient, half_quotient, minus_whole}
+use Rattle.binary.proofs.Over.{quotient, half_quotient, minus_whole, power_is}
 use Rattle.binary.proofs.Stands.{whole_stands, near_stands}
 
 -- ---- the leading one
@@ -99,24 +100,7 @@ rounded_holds b h r B H e = record {
   bound = λ k K. rounded_small h r k K e;
 }
 
-pub rounded_128 : (b : ℕ) (h z : ℤ) → b ≤ 500 → nat_abs h < 2 ^ 80 → z ≡ rounded (held h) → RoundedOver b h (held z)
-rounded_128 b h z B H e =
-    let same : held h ≡ h = omega (arith, ints) in
-    let is : z ≡ rounded h = e ∙ ap rounded same in
-    let small = rounded_small h z 80 H is in
-    let back : held z ≡ z = omega (arith, ints) in
-    rounded_holds b h (held z) B (lt_of_lt_of_le H (lit≤ tt)) (back ∙ is)
-
--- an i64 that goes through an i128
-pub rounded_64 : (b : ℕ) (h z : ℤ) → b ≤ 500 → nat_abs h < 2 ^ 62 → z ≡ rounded (held (to_z w64 (of_z w64 h))) → SFits w64 (held z) × RoundedOver b h (to_z w64 (of_z w64 (held z)))
-rounded_64 b h z B H e =
-    let same : held (to_z w64 (of_z w64 h)) ≡ h = omega (arith, ints) in
-    let is : z ≡ rounded h = e ∙ ap rounded same in
-    let small = rounded_small h z 62 H is in
-    let back : to_z w64 (of_z w64 (held z)) ≡ z = omega (arith, ints) in
-    (omega (arith, ints), rounded_holds b h (to_z w64 (of_z w64 (held z))) B (lt_of_lt_of_le H (lit≤ tt)) (back ∙ is))
-
--- ---- a float x, divided by the power of two that a constant y is
+-- ---- a float x, divided by the power of two that y is
 pub nearest_at : (b : ℕ) (h : ℤ) (x y : Float) → b ≤ 500 → nat_abs h < 2 ^ 500 → x ≡ of_int binary64 h → y ≡ fin false 1 (pos b) → div binary64 x y ≡ nearest_over b h
 nearest_at b h x y B H e p = (λ i. div binary64 (e i) (p i)) ∙ quotient b h (omega arith) (lt_of_lt_of_le H (lit≤ tt))
 
@@ -137,9 +121,6 @@ negated_at h n x F H N e t =
     let same = to_z-of_z w128 h F in
     ap neg (e ∙ ap (λ (k : ℕ). of_int binary64 (pos k)) (N ∙ ap nat_abs same)) ∙ negated_of h (lt_of_lt_of_le H (lit≤ tt)) (sym (ap (λ (z : ℤ). lt_z z (pos 0)) same) ∙ t)
 
-pub i64_below : (h : ℤ) → SFits w64 h → nat_abs h < 2 ^ 500
-i64_below h F = omega (arith, ints)
-
 pub one_below : (n a k : ℕ) → n < 2 ^ k → a ≡ leading_one (size n) → a < 2 ^ k
 one_below n a k h A = subst (λ (z : ℕ). z < 2 ^ k) (sym A) (at (size n) refl)
   where
@@ -147,23 +128,12 @@ one_below n a k h A = subst (λ (z : ℕ). z < 2 ^ k) (sym A) (at (size n) refl)
     at zero e = pow_pos k
     at (suc p) e = lt_of_le_of_lt (size_reaches n p (omega arith)) h
 
--- the constants, from their bit patterns
-pub two_to_30 : of_bits binary64 0x41d0_0000_0000_0000 ≡ fin false 1 (pos 30)
-unfolding of_bits
-two_to_30 = refl
+-- a power of two, from its bit pattern
+abbrev power_bits : ℕ → ℕ
+power_bits p = (p + 1023) * 4503599627370496 % 2 ^ 64
 
-pub two_to_40 : of_bits binary64 0x4270_0000_0000_0000 ≡ fin false 1 (pos 40)
-unfolding of_bits
-two_to_40 = refl
+pub power_no_nan : (p : ℕ) → p ≤ 1023 → T (not (nan_bits binary64 (power_bits p)))
+power_no_nan p P = not_nan_f64_bits (power_bits p) (omega arith)
 
-pub two_to_48 : of_bits binary64 0x42f0_0000_0000_0000 ≡ fin false 1 (pos 48)
-unfolding of_bits
-two_to_48 = refl
-
-pub two_to_83 : of_bits binary64 0x4520_0000_0000_0000 ≡ fin false 1 (pos 83)
-unfolding of_bits
-two_to_83 = refl
-
-pub two_to_101 : of_bits binary64 0x4640_0000_0000_0000 ≡ fin false 1 (pos 101)
-unfolding of_bits
-two_to_101 = refl
+pub power_at : (p : ℕ) → p ≤ 1023 → of_bits binary64 (power_bits p) ≡ fin false 1 (pos p)
+power_at p P = ap (of_bits binary64) (omega arith) ∙ power_is p P

@@ -1,15 +1,17 @@
 -- A whole number over a power of two in binary64: what the nearest number is, that a division gives it, and half a place.
-use Rattle.std.proofs.Common.{◌≡◌, ℕ, zero, suc, ◌+◌, ◌-◌, ◌*◌, ◌/◌, ◌%◌, ◌^◌, ◌<◌, ◌≤◌, Bool, true, false, cond, not, T, ltb, leb, ℤ, pos, negsuc, neg_ℤ, nat_abs, sym, refl, ap, ◌∙◌, subst, true≢false, le_trans, lt_of_lt_of_le, lt_of_le_of_lt, le_of_lt, mod-lt, one-mul, arith, lit<, lit≤, le→leb, lt→ltb, leb→le, pow_pos, pow_mono, pow-add, shl_lt, shr_lt}
+use Rattle.std.proofs.Common.{◌≡◌, ℕ, zero, suc, ◌+◌, ◌-◌, ◌*◌, ◌/◌, ◌%◌, ◌^◌, ◌<◌, ◌≤◌, Bool, true, false, cond, not, T, ltb, leb, ℤ, pos, negsuc, neg_ℤ, nat_abs, sym, refl, ap, ◌∙◌, subst, inl, inr, true≢false, le_trans, lt_of_lt_of_le, lt_of_le_of_lt, le_of_lt, mod-lt, one-mul, mul-div_cancel, arith, lit<, lit≤, le→leb, lt→ltb, leb→le, pow_pos, pow_mono, pow-add, shl_lt, shr_lt}
 use lib.Dec.{nleb→lt}
 use lib.Pow.{pow-lt, split}
-use lib.Ieee.{Float, nan, inf, fin, binary64, down, minus, size, round, neg, add, mul, div, of_int, fits}
+use lib.Ieee.{Float, nan, inf, fin, binary64, down, minus, size, round, neg, add, mul, div, of_bits, to_bits, of_int, fits}
 use lib.Ieee.Digits.{size-lt, size-le, minus_val}
 use lib.Ieee.Fits.{round-fits, neg-fits, and_i}
 use lib.Ieee.Exact.{HasValue}
 use lib.Ieee.Back.{round_whole}
+use lib.Ieee.Bits.{of_bits-to_bits}
+use Rattle.std.proofs.lemmas.Bool.{cases_lt}
 use Rattle.binary.specs.Nearest.{below_zero, nearest_over, leading, rounded, IsOver, leading_one, half_place_of}
 use Rattle.binary.proofs.Leading.{all_kept, at_least}
-use Rattle.binary.proofs.Values.{one_number, added, scaled, exact_over, below_overflow, rounded_over, divided_once}
+use Rattle.binary.proofs.Values.{pattern_is, stretch, one_number, added, scaled, exact_over, below_overflow, rounded_over, divided_once}
 
 -- ---- how many digits a number above zero has
 counted : (n k : ℕ) → 0 < n → size n ≡ k → (j : ℕ) × (size n ≡ suc j)
@@ -77,12 +79,16 @@ opposite b n B N =
 pub power_value : (p l : ℕ) → HasValue (fin false 1 (minus p l)) false (2 ^ p) (2 ^ l)
 power_value p l = (refl, minus_val 1 p l ∙ ap (λ (z : ℕ). z * down (minus p l)) (one-mul (2 ^ p)))
 
+whole_power_fits : (p : ℕ) → p < 1024 → T (fits binary64 (fin false 1 (pos p)))
+unfolding fits
+whole_power_fits p P = lt→ltb (1 * 2 ^ p) (2 ^ 1024) (subst (λ (z : ℕ). z < 2 ^ 1024) (sym (one-mul (2 ^ p))) (pow-lt {i = p} {j = 1024} P))
+
 power_fits : (p l : ℕ) → p < 1024 → l ≤ 1074 → T (fits binary64 (fin false 1 (minus p l)))
 unfolding fits
 power_fits p l P L = go (leb l p) (leb→le l p) (nleb→lt l p)
   where
     go : (t : Bool) → (T t → l ≤ p) → (T (not t) → p < l) → T (fits binary64 (fin false 1 (cond t (pos (p - l)) (negsuc (l - suc p)))))
-    go true a c = lt→ltb (1 * 2 ^ (p - l)) (2 ^ 1024) (subst (λ (z : ℕ). z < 2 ^ 1024) (sym (one-mul (2 ^ (p - l)))) (pow-lt {i = p - l} {j = 1024} (omega arith)))
+    go true a c = whole_power_fits (p - l) (omega arith)
     go false a c =
         and_i (leb (2 ^ suc (l - suc p)) (2 ^ 1074)) (ltb 1 (2 ^ 1024 * 2 ^ suc (l - suc p)))
         (le→leb (2 ^ suc (l - suc p)) (2 ^ 1074) (pow_mono {i = suc (l - suc p)} {j = 1074} (less (c tt))))
@@ -90,6 +96,25 @@ power_fits p l P L = go (leb l p) (leb→le l p) (nleb→lt l p)
       where
         less : p < l → suc (l - suc p) ≤ 1074
         less h = omega arith
+
+-- ---- 2 ^ p, from its bit pattern
+size_of_power : (k : ℕ) → size (2 ^ k) ≡ suc k
+size_of_power k = elim (cases_lt k (size (2 ^ k))) [
+  | inl l ↦ omega (arith, size-le (2 ^ k) (suc k) (pow-lt {i = k} {j = suc k} (omega arith)))
+  | inr l ↦ absurd (omega (arith, size-lt (2 ^ k), pow_mono {i = size (2 ^ k)} {j = k} l))
+]
+
+pub power_is : (p : ℕ) → p ≤ 1023 → of_bits binary64 ((p + 1023) * 2 ^ 52) ≡ fin false 1 (pos p)
+power_is p P =
+    let x = fin false 1 (pos p) in
+    let k = p + 1022 in
+    let units : 2 ^ p * 2 ^ 1074 ≡ 2 ^ 52 * 2 ^ k = sym (pow-add 2 p 1074) ∙ ap (λ (j : ℕ). 2 ^ j) (omega arith) ∙ pow-add 2 52 k in
+    let digits : size (2 ^ p * 2 ^ 1074) - 53 ≡ k = ap (λ (n : ℕ). size n - 53) (sym (pow-add 2 p 1074)) ∙ ap (λ (j : ℕ). j - 53) (size_of_power (p + 1074)) ∙ omega arith in
+    let fraction : 2 ^ p * 2 ^ 1074 / 2 ^ k ≡ 2 ^ 52 = ap (λ (n : ℕ). n / 2 ^ k) units ∙ mul-div_cancel (2 ^ 52) (pow_pos k) in
+    let value : HasValue x false (2 ^ p * 2 ^ 1074) (2 ^ 1074) = stretch x false (2 ^ p) 1 (2 ^ 1074) (refl, omega arith) in
+    let pattern : to_bits binary64 x ≡ (p + 1023) * 2 ^ 52 =
+    pattern_is binary64 x false (2 ^ p * 2 ^ 1074) value ∙ ap (λ (j : ℕ). 0 + j * 2 ^ 52 + 2 ^ p * 2 ^ 1074 / 2 ^ j) digits ∙ ap (λ (n : ℕ). 0 + k * 2 ^ 52 + n) fraction ∙ omega arith in
+    ap (of_bits binary64) (sym pattern) ∙ of_bits-to_bits binary64 x (whole_power_fits p (omega arith))
 
 pub half_place_value : (b k : ℕ) → HasValue (half_place_of b k) false (leading_one k) (2 ^ (b + 53))
 half_place_value b zero = (refl, omega arith)

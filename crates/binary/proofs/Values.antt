@@ -24,7 +24,7 @@ shrink (inf t) s a c k K v = v
 shrink (fin t m e) s a c k K v = (v.0, eq_of_mul-eq-mul_right k K (m * up e * c) (a * down e) (omega (arith, v.1)))
 
 -- ---- a number's bit pattern is made of its sign and of its size in units of the format's smallest number
-pattern_is : (f : Format) (x : Float) (s : Bool) (n : ℕ) → HasValue x s n (2 ^ low f)
+pub pattern_is : (f : Format) (x : Float) (s : Bool) (n : ℕ) → HasValue x s n (2 ^ low f)
     → to_bits f x ≡ cond s (top f) 0 + (size n - prec f) * hid f + n / 2 ^ (size n - prec f)
 unfolding to_bits
 pattern_is f nan s n v = absurd v

@@ -1,11 +1,13 @@
 // A whole number to the binary digits that a binary64 number has.
-ghost use Rattle.std.specs.Prelude.{◌≡◌, ◌*◌, ◌^◌, ◌<◌, unsigned_abs};
+ghost use Rattle.std.specs.Prelude.{◌≡◌, ◌*◌, ◌^◌, ◌<◌, ◌≤◌, ℕ, unsigned_abs};
 ghost use Prim.Native.Nat.{compare};
 ghost use Rattle.std.specs.Float.Ieee.{size, nearest};
-ghost use Rattle.binary.specs.Nearest.{leading, rounded, RoundedOver, leading_one};
+ghost use Rattle.binary.specs.Nearest.{leading, RoundedOver, leading_one};
+
+use std::cmp::Ordering;
 
 // How many binary digits a binary64 number has.
-const DIGITS: u32 = 53;
+pub const DIGITS: u32 = 53;
 
 // How many binary digits n has.
 fn digits_in(n: u128) -> u32
@@ -28,13 +30,10 @@ fn nearest_multiple(whole: u128, rest: u128, unit: u128) -> u128
     requires { (whole < 2 ^ 127) × (rest < 2 ^ 127) }
     ensures { result ≡ nearest whole (compare (rest * 2) unit) }
 {
-    let twice = rest * 2;
-    if twice < unit {
-        whole
-    } else if twice == unit {
-        whole + whole % 2
-    } else {
-        whole + 1
+    match (rest * 2).cmp(&unit) {
+        Ordering::Less => whole,
+        Ordering::Equal => whole + whole % 2,
+        Ordering::Greater => whole + 1,
     }
 }
 
@@ -48,27 +47,12 @@ fn leading_digits(n: u128) -> u128
     nearest_multiple(n >> drop, n & (unit - 1), unit) * unit
 }
 
-// The same of an integer, which keeps its sign.
-fn rounded_whole(h: i128) -> i128
+// The same of an integer, which keeps its sign: over any power of two it is the nearest `f64` to h
+// over that power.
+pub fn rounded(h: i128) -> i128
     requires { unsigned_abs h < 2 ^ 126 }
-    ensures { result ≡ rounded h }
+    ensures { (places : ℕ) → places ≤ 500 → RoundedOver places h result }
 {
     let size = leading_digits(h.unsigned_abs()) as i128;
     if h < 0 { -size } else { size }
-}
-
-// The nearest `f64` to h / 2^30, as a whole number over 2^30.
-pub fn rounded_30(h: i64) -> i64
-    requires { unsigned_abs h < 2 ^ 62 }
-    ensures { RoundedOver 30 h result }
-{
-    rounded_whole(h as i128) as i64
-}
-
-// The nearest `f64` to h / 2^48, as a whole number over 2^48.
-pub fn rounded_48(h: i128) -> i128
-    requires { unsigned_abs h < 2 ^ 80 }
-    ensures { RoundedOver 48 h result }
-{
-    rounded_whole(h)
 }

@@ -1,10 +1,10 @@
 // A whole number over a power of two as the nearest binary64 number, with how far off that is.
 //
-// For h / 2^30 with an `i64` h, and for h / 2^48 with an `i128` h below 2^80 in size:
-// `nearest_30` and `nearest_48` round the fraction once, to the nearest `f64`;
-// `rounded_30` and `rounded_48` are that `f64` as a whole number over the same power of two;
-// `half_place_30` and `half_place_48` bound how far the fraction is off it, and are the
-// `leading_one` of the size of h over 2^83 and 2^101.
+// For h / 2^PLACES, with at most 500 places:
+// `nearest` rounds the fraction once, to the nearest `f64`;
+// `rounded` is that `f64` as a whole number over the same power of two, whatever the power is;
+// `half_place` bounds how far the fraction is off it, and is the `leading_one` of the size of h
+// over 2^(PLACES + 53).
 // `theorems` has what holds of all of them, in exact numbers.
 #![tactic(auto)]
 
@@ -12,5 +12,5 @@ mod digits;
 mod float;
 pub mod theorems;
 
-pub use digits::{leading_one, rounded_30, rounded_48};
-pub use float::{half_place_30, half_place_48, nearest_30, nearest_48};
+pub use digits::{DIGITS, leading_one, rounded};
+pub use float::{half_place, nearest};

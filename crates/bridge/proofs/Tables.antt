@@ -1,13 +1,14 @@
 -- The entries of a table: how they are written as they are found, and that they take turns. Assumes nothing.
-use Rattle.std.proofs.Common.{◌≡◌, ℕ, zero, suc, ◌+◌, ◌-◌, ◌<◌, ◌≤◌, Bool, false, cond, not, eqb, ◌≢◌, List, [], ◌∷◌, ◌++◌, length, get_or, set, sym, refl, ap, ◌∙◌, subst, inl, inr, arith, length-append, length-set, get_or-set_other, get_or-set_same}
+use Rattle.std.proofs.Common.{◌≡◌, ℕ, zero, suc, ◌+◌, ◌-◌, ◌<◌, ◌≤◌, Bool, false, not, ◌≢◌, List, [], ◌∷◌, ◌++◌, length, get_or, set, Option, Some, None, unwrap_or, sym, refl, ap, ◌∙◌, subst, inl, inr, arith, length-append, length-set, get_or-set_other, get_or-set_same}
 use Rattle.std.proofs.lemmas.List.{get_or_append_left, get_or_push}
-use Rattle.std.proofs.lemmas.Bool.{cases_eq, ne_eqb}
+use Rattle.std.proofs.lemmas.Bool.{cases_eq}
 use Rattle.crossing.specs.declared.event.Crossing.{Crossing}
 use Rattle.crossing.specs.Events.{crossings}
 use Rattle.crossing.specs.Promise.{Listed}
-use Rattle.search.specs.Walks.{Course, First, Seen, Walked}
-use Rattle.search.proofs.Collecting.{Collected, collected_none, collected_one, collected_start}
-use Rattle.bridge.specs.Tables.{Copied, FilledWith, first_rises, rises_after, turned}
+use Rattle.search.specs.Walks.{Came, Course, Gives, left}
+use Rattle.search.proofs.Collecting.{came_on, came_to_end, listed_all, listed_on}
+use Rattle.std.specs.Option.{option_or}
+use Rattle.bridge.specs.Tables.{Copied, FilledWith, first_rises, turned}
 
 -- one more is written behind those that are
 copied_more : (cs : List Crossing) (c : Crossing) (n : ℕ) (into out : List ℕ) → n ≡ length cs → length out ≡ length into → Copied cs into out → Copied (cs ++ (c ∷ [])) into (set out n c.tick)
@@ -23,84 +24,65 @@ copied_more cs c n into out n_is long h = record {
     less : (k : ℕ) → k < length (cs ++ (c ∷ [])) → k ≢ n → k < length cs
     less k lt apart = omega (arith, apart, length-append cs (c ∷ []))
 
-rises_more : (cs : List Crossing) (c : Crossing) (n : ℕ) (rises : Bool) → n ≡ length cs → rises ≡ first_rises cs → rises_after n rises c.rises ≡ first_rises (cs ++ (c ∷ []))
-rises_more [] c n rises n_is is = ap (λ (k : ℕ). rises_after k rises c.rises) n_is
-rises_more (x ∷ cs) c n rises n_is is =
-    let apart : eqb n 0 ≡ false = ne_eqb n 0 (λ e. omega (arith, e, n_is)) in
-    ap (λ (b : Bool). cond b c.rises rises) apart ∙ is
+-- the kind of the first, if there is one
+abbrev pub first_kind : List Crossing → Option Bool
+first_kind [] = None
+first_kind (c ∷ cs) = Some c.rises
 
--- what a walk has when it stands before tick v, as it collects them, and what it has written
-pub record Filling (m : Course) (t v : ℕ) (into out : List ℕ) (was : Bool) (n entries : ℕ) (rises : Bool) : Type 0 where
+kind_more : (cs : List Crossing) (c : Crossing) → option_or (first_kind cs) (Some c.rises) ≡ first_kind (cs ++ (c ∷ []))
+kind_more [] c = refl
+kind_more (x ∷ cs) c = refl
+
+kind_rises : (cs : List Crossing) → unwrap_or (first_kind cs) false ≡ first_rises cs
+kind_rises [] = refl
+kind_rises (c ∷ cs) = refl
+
+-- what was found and written by a walk that came to tick v by n evaluations
+pub record Filling (m : Course) (t v : ℕ) (into out : List ℕ) (n entries : ℕ) (first : Option Bool) : Type 0 where
   pub found : List Crossing
-  pub collected : Collected m t v found was n
+  pub listed : found ++ left m v ≡ crossings m.so t (m.stop - t)
+  pub came : Came m t v n
   pub count : entries ≡ length found
-  pub first : rises ≡ first_rises found
+  pub kind : first ≡ first_kind found
   pub copied : Copied found into out
   pub long : length out ≡ length into
-  pub few : entries ≤ n
+  pub few : entries ≤ v
 
-pub filling_start : (m : Course) (t s till : ℕ) (b : Bool) (into : List ℕ) → s ≡ t - 1 → Seen m s b till → Filling m t till into into b 1 0 false
-filling_start m t s till b into s-is seen = record {
+pub filling_start : (m : Course) (t v n : ℕ) (into : List ℕ) → Came m t v n → left m v ≡ crossings m.so t (m.stop - t) → Filling m t v into into n 0 None
+filling_start m t v n into came whole = record {
   found = [];
-  collected = collected_start m t s till b [] s-is refl seen;
+  listed = whole;
+  came = came;
   count = refl;
-  first = refl;
+  kind = refl;
   copied = record { ticks = λ k d lt room. absurd (omega arith); behind = λ k le. refl };
   long = refl;
   few = omega arith;
 }
 
-pub filling_one : (m : Course) (t v r till n k entries : ℕ) (b rises after : Bool) (into out more : List ℕ) → Filling m t v into out b n entries rises → First m.so (not b) v m.stop r → Walked m (not b) v r till k → r < m.stop → more ≡ set out entries r → after ≡ rises_after entries rises (not b) → Filling m t till into more (not b) (n + k) (entries + 1) after
-filling_one m t v r till n k entries b rises after into out more h first walked lt more-is after_is = record {
+pub filling_one : (m : Course) (t v u n k entries : ℕ) (c : Crossing) (first after : Option Bool) (into out more : List ℕ) → Filling m t v into out n entries first → Gives m v n (Some c) u k → more ≡ set out entries c.tick → after ≡ option_or first (Some c.rises) → Filling m t u into more k (entries + 1) after
+filling_one m t v u n k entries c first after into out more h gives more-is after_is = record {
   found = h.found ++ (c ∷ []);
-  collected = collected_one m t v r till n k b h.found (h.found ++ (c ∷ [])) h.collected first walked lt refl;
+  listed = listed_on m v n u k c h.found (crossings m.so t (m.stop - t)) h.listed gives;
+  came = came_on m t v n u k (Some c) h.came gives;
   count = omega (arith, h.count, length-append h.found (c ∷ []));
-  first = after_is ∙ rises_more h.found c entries rises h.count h.first;
+  kind = after_is ∙ ap (λ (o : Option Bool). option_or o (Some c.rises)) h.kind ∙ kind_more h.found c;
   copied = subst (Copied (h.found ++ (c ∷ [])) into) (sym more-is) (copied_more h.found c entries into out h.count h.long h.copied);
-  long = ap length more-is ∙ length-set out entries r ∙ h.long;
-  few = omega (arith, h.few, (walked.last lt).0);
-}
-  where
-    c : Crossing
-    c = record { tick = r; rises = not b }
-
-pub filling_none : (m : Course) (t v r till n k entries : ℕ) (b rises : Bool) (into out : List ℕ) → Filling m t v into out b n entries rises → First m.so (not b) v m.stop r → Walked m (not b) v r till k → m.stop ≤ r → Filling m t till into out b (n + k) entries rises
-filling_none m t v r till n k entries b rises into out h first walked ge = record {
-  found = h.found;
-  collected = collected_none m t v r till n k b h.found h.collected first walked ge;
-  count = h.count;
-  first = h.first;
-  copied = h.copied;
-  long = h.long;
-  few = omega (arith, h.few);
+  long = ap length more-is ∙ length-set out entries c.tick ∙ h.long;
+  few = omega (arith, h.few, gives.next.1);
 }
 
 -- at the row's end it has them all
-pub filling_end : (m : Course) (t v n entries : ℕ) (b rises : Bool) (into out : List ℕ) → t < m.stop → m.stop ≤ v → Filling m t v into out b n entries rises → FilledWith m t into out (record { entries = entries; rises = rises; evaluations = n })
-filling_end m t v n entries b rises into out lt end h = record {
+pub filling_end : (m : Course) (t v u n k entries : ℕ) (first : Option Bool) (into out : List ℕ) → Filling m t v into out n entries first → Gives m v n None u k → FilledWith m t into out (record { entries = entries; rises = unwrap_or first false; evaluations = k })
+filling_end m t v u n k entries first into out h gives = record {
   entries = h.count ∙ ap length all;
-  rises = h.first ∙ ap first_rises all;
+  rises = ap (λ (o : Option Bool). unwrap_or o false) h.kind ∙ kind_rises h.found ∙ ap first_rises all;
   written = subst (λ (cs : List Crossing). Copied cs into out) all h.copied;
-  steps = (λ p. omega (arith, p), λ p. h.collected.steps ∙ stops);
+  steps = came_to_end m t u k gives.next.1 (came_on m t v n u k None h.came gives);
 }
   where
-    stops : v ≡ m.stop
-    stops = omega (arith, h.collected.inside)
-
     all : h.found ≡ crossings m.so t (m.stop - t)
-    all = h.collected.list ∙ ap (λ (x : ℕ). crossings m.so t (x - t)) stops
-
-pub filling_nothing : (m : Course) (t : ℕ) (into : List ℕ) → m.stop ≤ t → FilledWith m t into into (record { entries = 0; rises = false; evaluations = 0 })
-unfolding crossings
-filling_nothing m t into end = record {
-  entries = ap length (sym none);
-  rises = ap first_rises (sym none);
-  written = subst (λ (cs : List Crossing). Copied cs into into) (sym none) (record { ticks = λ k d lt room. absurd (omega arith); behind = λ k le. refl });
-  steps = (λ p. refl, λ p. omega arith);
-}
-  where
-    none : crossings m.so t (m.stop - t) ≡ []
-    none = let e : m.stop - t ≡ 0 = omega arith in ap (crossings m.so t) e
+    all = listed_all m v n u k h.found (crossings m.so t (m.stop - t)) h.listed gives
 
 starts : (cs : List Crossing) (d : Crossing) → 0 < length cs → (get_or cs 0 d).rises ≡ first_rises cs
 starts [] d h = absurd (omega arith)

@@ -1,6 +1,6 @@
 -- What the exported functions answer. Assumes nothing: these are definitions.
 use Rattle.std.specs.Prelude.{◌≡◌, ℕ, suc, ◌+◌, ◌<◌, ◌≤◌, true, false, ◌⊎◌, List, length, take, drop, ℤ, pos, Some, None, Option}
-use Rattle.almanac.specs.Answers.{CountsFirst, SaysFirst, SpansSays}
+use Rattle.almanac.specs.Answers.{FirstAsked, SpansSays}
 use Rattle.almanac.specs.Refuses.{Refuses, Taken}
 use Rattle.binary.specs.Nearest.{nearest_over}
 use Rattle.crossing.specs.Above.{above}
@@ -48,14 +48,6 @@ pub record RefusedAs (xs : List ℤ) (line : ℤ) (t what : ℕ) (r : Refused) :
 abbrev pub CheckSays : (xs : List ℤ) → Refused → Type 0
 CheckSays xs r = (Good xs × (r ≡ nothing)) ⊎ ((Good xs → ⊥) × (r ≡ record { number = 1; place = first_beyond xs }))
 
--- the first tick of an event that is asked for by its number, and how many heights were worked out for it
-pub record FirstAsked (xs : List ℤ) (line : ℤ) (t what : ℕ) (tick : Option ℕ) (n : ℕ) : Type 0 where
-  pub taken : Taken xs line t what
-  pub event : Event
-  pub by_number : event_number event ≡ what
-  pub first : SaysFirst (happens event (above (almanac_in 1024 xs) line)) t (ticks (almanac_in 1024 xs)) tick
-  pub counted : CountsFirst (almanac_in 1024 xs) line event t tick n
-
 abbrev pub first_told : Option ℕ → ℕ → FirstAnswer
 first_told (Some t) n = record { refused = nothing; found = true; tick = t; evaluations = n }
 first_told None n = record { refused = nothing; found = false; tick = 0; evaluations = n }
@@ -92,6 +84,11 @@ pub record PartSays (xs : List ℤ) (first end : ℕ) (r : Part) : Type 0 where
   pub inside : r.place + r.length ≤ length xs
   pub part : SpansSays xs first end (take r.length (drop r.place xs))
   pub empty : r.length ≡ 0 → r.place ≡ 0
+
+-- a span that was found, or that there is none
+abbrev pub gap_told : Option ℕ → GapAnswer
+gap_told (Some i) = record { refused = nothing; found = true; span = i }
+gap_told None = record { refused = nothing; found = false; span = 0 }
 
 -- the first span that does not meet the next one
 abbrev pub GapSays : (xs : List ℤ) → GapAnswer → Type 0

@@ -1,5 +1,5 @@
 -- What the exported table answers and writes. Assumes nothing: these are definitions.
-use Rattle.std.specs.Prelude.{◌≡◌, ℕ, zero, suc, ◌-◌, ◌<◌, ◌≤◌, Bool, false, cond, not, ◌⊎◌, List, [], ◌∷◌, length, ℤ, ◌==◌, slice_index, slice_index_or}
+use Rattle.std.specs.Prelude.{◌≡◌, ℕ, zero, suc, ◌-◌, ◌<◌, ◌≤◌, Bool, false, not, ◌⊎◌, List, [], ◌∷◌, length, ℤ, slice_index, slice_index_or}
 use Rattle.almanac.specs.Answers.{ListsCrossings}
 use Rattle.almanac.specs.Refuses.{Taken}
 use Rattle.crossing.specs.Events.{crossings}
@@ -14,10 +14,6 @@ use Rattle.bridge.specs.Answers.{RefusedAs, nothing}
 abbrev pub first_rises : List Crossing → Bool
 first_rises [] = false
 first_rises (c ∷ cs) = c.rises
-
--- whether the first is a rising, after one more behind n of which the first is one as `rises` says
-abbrev pub rises_after : (n : ℕ) (rises one : Bool) → Bool
-rises_after n rises one = cond (n == 0) one rises
 
 -- what the k-th of those that take turns is, if the first is w
 abbrev pub turned : Bool → ℕ → Bool
@@ -35,6 +31,10 @@ pub record FilledWith (m : Course) (t : ℕ) (into out : List ℕ) (r : Filled) 
   pub rises : r.rises ≡ first_rises (crossings m.so t (m.stop - t))
   pub written : Copied (crossings m.so t (m.stop - t)) into out
   pub steps : Steps m (t - 1) t r.evaluations
+
+-- what was filled, as it is handed out
+abbrev pub table_told : Filled → TableAnswer
+table_told f = record { refused = nothing; entries = f.entries; rises = f.rises; evaluations = f.evaluations }
 
 -- the table of a question that is taken
 pub record TableMade (xs : List ℤ) (line : ℤ) (t end : ℕ) (into out : List ℕ) (r : TableAnswer) : Type 0 where

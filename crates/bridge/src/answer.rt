@@ -1,4 +1,15 @@
-// What is handed out. Where something is refused, all other fields are 0 or false.
+// What is handed out. Where something is refused, all other fields are 0 or false: C has no Option and no Result.
+ghost use Rattle.bridge.specs.Answers.{first_told, gap_told, nothing, sighting_told};
+ghost use Rattle.bridge.specs.Tables.{table_told};
+ghost use Rattle.binary.specs.Nearest.{nearest_over};
+ghost use Rattle.std.specs.Prelude.{◌≡◌, false, pos};
+
+use super::highest::Peak;
+use super::refuse::NOTHING;
+use super::table::Filled;
+use almanac::ask::First;
+use binary::nearest;
+use reading::answer::{Near, Sighting};
 
 // The number and the place of a refusal; the number is 0 where nothing is refused, and so is the place.
 #[repr(C)]
@@ -88,4 +99,199 @@ pub struct CountAnswer {
 pub struct HighestAnswer {
     pub refused: Refused,
     pub tick: u64,
+}
+
+// +0.0.
+fn zero() -> f64
+    ensures { result ≡ nearest_over 30 (pos 0) }
+{
+    nearest::<30>(0)
+}
+
+impl From<Refused> for FirstAnswer {
+    ghost from_gives = { λ e r. r ≡ record { refused = e; found = false; tick = 0; evaluations = 0 } };
+
+    fn from(refused: Refused) -> FirstAnswer {
+        FirstAnswer {
+            refused,
+            found: false,
+            tick: 0,
+            evaluations: 0,
+        }
+    }
+}
+
+impl From<First> for FirstAnswer {
+    ghost from_gives = { λ a r. r ≡ first_told a.tick a.evaluations };
+
+    fn from(first: First) -> FirstAnswer {
+        FirstAnswer {
+            refused: NOTHING,
+            found: first.tick.is_some(),
+            tick: first.tick.unwrap_or(0),
+            evaluations: first.evaluations,
+        }
+    }
+}
+
+impl From<Refused> for HeightAnswer {
+    ghost from_gives = { λ e r. r ≡ record { refused = e; height = pos 0 } };
+
+    fn from(refused: Refused) -> HeightAnswer {
+        HeightAnswer { refused, height: 0 }
+    }
+}
+
+impl From<i64> for HeightAnswer {
+    ghost from_gives = { λ h r. r ≡ record { refused = nothing; height = h } };
+
+    fn from(height: i64) -> HeightAnswer {
+        HeightAnswer {
+            refused: NOTHING,
+            height,
+        }
+    }
+}
+
+impl From<Refused> for NearAnswer {
+    ghost from_gives = { λ e r. r ≡ record { refused = e; height = nearest_over 30 (pos 0); error = nearest_over 30 (pos 0) } };
+
+    fn from(refused: Refused) -> NearAnswer {
+        NearAnswer {
+            refused,
+            height: zero(),
+            error: zero(),
+        }
+    }
+}
+
+impl From<Near> for NearAnswer {
+    ghost from_gives = { λ x r. r ≡ record { refused = nothing; height = x.height; error = x.error } };
+
+    fn from(near: Near) -> NearAnswer {
+        NearAnswer {
+            refused: NOTHING,
+            height: near.height,
+            error: near.error,
+        }
+    }
+}
+
+impl From<Refused> for SightingAnswer {
+    ghost from_gives = { λ e r. r ≡ record { refused = e; seen = false; above = nearest_over 30 (pos 0) } };
+
+    fn from(refused: Refused) -> SightingAnswer {
+        SightingAnswer {
+            refused,
+            seen: false,
+            above: zero(),
+        }
+    }
+}
+
+impl From<Sighting> for SightingAnswer {
+    ghost from_gives = { λ x r. r ≡ sighting_told x };
+
+    fn from(sighting: Sighting) -> SightingAnswer {
+        match sighting {
+            Sighting::Seen(above) => SightingAnswer {
+                refused: NOTHING,
+                seen: true,
+                above,
+            },
+            Sighting::Hidden => SightingAnswer {
+                refused: NOTHING,
+                seen: false,
+                above: zero(),
+            },
+        }
+    }
+}
+
+impl From<Refused> for GapAnswer {
+    ghost from_gives = { λ e r. r ≡ record { refused = e; found = false; span = 0 } };
+
+    fn from(refused: Refused) -> GapAnswer {
+        GapAnswer {
+            refused,
+            found: false,
+            span: 0,
+        }
+    }
+}
+
+impl From<Option<u64>> for GapAnswer {
+    ghost from_gives = { λ o r. r ≡ gap_told o };
+
+    fn from(span: Option<u64>) -> GapAnswer {
+        GapAnswer {
+            refused: NOTHING,
+            found: span.is_some(),
+            span: span.unwrap_or(0),
+        }
+    }
+}
+
+impl From<Refused> for TableAnswer {
+    ghost from_gives = { λ e r. r ≡ record { refused = e; entries = 0; rises = false; evaluations = 0 } };
+
+    fn from(refused: Refused) -> TableAnswer {
+        TableAnswer {
+            refused,
+            entries: 0,
+            rises: false,
+            evaluations: 0,
+        }
+    }
+}
+
+impl From<Filled> for TableAnswer {
+    ghost from_gives = { λ x r. r ≡ table_told x };
+
+    fn from(filled: Filled) -> TableAnswer {
+        TableAnswer {
+            refused: NOTHING,
+            entries: filled.entries,
+            rises: filled.rises,
+            evaluations: filled.evaluations,
+        }
+    }
+}
+
+impl From<Refused> for CountAnswer {
+    ghost from_gives = { λ e r. r ≡ record { refused = e; ticks = 0 } };
+
+    fn from(refused: Refused) -> CountAnswer {
+        CountAnswer { refused, ticks: 0 }
+    }
+}
+
+impl From<u64> for CountAnswer {
+    ghost from_gives = { λ n r. r ≡ record { refused = nothing; ticks = n } };
+
+    fn from(ticks: u64) -> CountAnswer {
+        CountAnswer {
+            refused: NOTHING,
+            ticks,
+        }
+    }
+}
+
+impl From<Refused> for HighestAnswer {
+    ghost from_gives = { λ e r. r ≡ record { refused = e; tick = 0 } };
+
+    fn from(refused: Refused) -> HighestAnswer {
+        HighestAnswer { refused, tick: 0 }
+    }
+}
+
+impl From<Peak> for HighestAnswer {
+    ghost from_gives = { λ p r. r ≡ record { refused = nothing; tick = p.tick } };
+
+    fn from(peak: Peak) -> HighestAnswer {
+        HighestAnswer {
+            refused: NOTHING,
+            tick: peak.tick,
+        }
+    }
 }

@@ -1,91 +1,28 @@
 // The first tick, heights, sightings, parts of the file.
-ghost use Rattle.std.specs.Prelude.{◌≡◌, ◌+◌, ◌*◌, ◌≤◌, pos, Ok, Err};
-ghost use Rattle.almanac.specs.Refuses.{Refuses, Taken};
-ghost use Rattle.bridge.specs.Answers.{FirstAsked, FirstSays, GapSays, HeightSays, NearSays, PartSays, SightingSays, first_told, sighting_told};
-ghost use Rattle.crossing.specs.Events.{event_number};
-ghost use Rattle.height.specs.Almanacs.{height_at, rounded};
-ghost use Rattle.height.specs.Files.{almanac_in};
-ghost use Rattle.height.specs.declared.refusal.Refusal.TheVariants.{Asked};
+ghost use Rattle.std.specs.Prelude.{◌≡◌, ℕ, suc, ◌+◌, ◌*◌, ◌<◌, Some, None, Ok, Err};
+ghost use Rattle.bridge.specs.Answers.{FirstSays, GapSays, HeightSays, NearSays, PartSays, SightingSays};
+ghost use Rattle.height.specs.Almanacs.{AllMeet, Meets};
+ghost use Rattle.height.specs.Files.{Good, almanac_in, first_beyond};
+ghost use Rattle.height.specs.declared.refusal.Refusal.TheVariants.{File};
 
 use super::answer::{FirstAnswer, GapAnswer, HeightAnswer, NearAnswer, Part, SightingAnswer};
-use super::refuse::{NOTHING, refused};
-use almanac::almanac::Almanac;
-use almanac::ask::First;
-use almanac::check::{check_line, check_tick};
-use almanac::entry::{near_of, sighting_of, tick_of};
-use binary::nearest_30;
-use crossing::event::Event;
+use super::refuse::refused;
+use almanac::entry::{first_in, height_in, near_of, sighting_of, tick_of};
 use height::file::View;
 use height::join::first_gap;
 use height::refusal::Refusal;
+use height::source::Source;
 use height::span::Span;
-use height::view::check;
-use reading::answer::Sighting;
-
-// The event of a number.
-fn event_of(what: u64) -> Result<Event, Refusal>
-    ensures { elim result [ Ok e ↦ (what ≤ 2) × (event_number e ≡ what) | Err e ↦ (what ≤ 2 → ⊥) × (e ≡ Asked what) ] }
-{
-    match Event::of(what) {
-        Some(event) => Ok(event),
-        None => Err(Refusal::Asked(what)),
-    }
-}
-
-// The first tick with its count, or why it is refused.
-fn ask_first(spans: &[i32], line: i64, from: u64, what: u64) -> Result<First, Refusal>
-    ensures { elim result [ Ok a ↦ FirstAsked spans.now line «from» what a.tick a.evaluations | Err e ↦ Refuses spans.now line «from» what e ] }
-{
-    check(spans)?;
-    let almanac = Almanac::new(spans);
-    check_line(line)?;
-    check_tick(from, almanac.ticks())?;
-    let event = event_of(what)?;
-    almanac.first(line, event, from)
-}
-
-// What was found, handed out.
-fn hand_first(first: First) -> FirstAnswer
-    ensures { result ≡ first_told first.tick first.evaluations }
-{
-    match first.tick {
-        Some(tick) => FirstAnswer {
-            refused: NOTHING,
-            found: true,
-            tick,
-            evaluations: first.evaluations,
-        },
-        None => FirstAnswer {
-            refused: NOTHING,
-            found: false,
-            tick: 0,
-            evaluations: first.evaluations,
-        },
-    }
-}
 
 // From a tick on, the first one in which a body is above a line (0), rises (1) or sets (2).
 #[unsafe(no_mangle)]
 pub extern "C" fn pocketmica_first(spans: &[i32], line: i64, from: u64, what: u64) -> FirstAnswer
     ensures { FirstSays spans.now line «from» what result }
 {
-    match ask_first(spans, line, from, what) {
-        Ok(first) => hand_first(first),
-        Err(refusal) => FirstAnswer {
-            refused: refused(refusal, from),
-            found: false,
-            tick: 0,
-            evaluations: 0,
-        },
+    match first_in(spans, line, from, what) {
+        Ok(first) => first.into(),
+        Err(refusal) => refused(refusal, from).into(),
     }
-}
-
-// The height in a tick, or why it is refused.
-fn ask_height(spans: &[i32], tick: u64) -> Result<i64, Refusal>
-    ensures { elim result [ Ok h ↦ Taken spans.now (pos 0) tick 0 × (h ≡ rounded 1024 (height_at (almanac_in 1024 spans.now) tick)) | Err e ↦ Refuses spans.now (pos 0) tick 0 e ] }
-{
-    check(spans)?;
-    Almanac::new(spans).height(tick)
 }
 
 // The height in a tick, in whole thousandths.
@@ -93,15 +30,9 @@ fn ask_height(spans: &[i32], tick: u64) -> Result<i64, Refusal>
 pub extern "C" fn pocketmica_height(spans: &[i32], tick: u64) -> HeightAnswer
     ensures { HeightSays spans.now tick result }
 {
-    match ask_height(spans, tick) {
-        Ok(height) => HeightAnswer {
-            refused: NOTHING,
-            height,
-        },
-        Err(refusal) => HeightAnswer {
-            refused: refused(refusal, tick),
-            height: 0,
-        },
+    match height_in(spans, tick) {
+        Ok(height) => height.into(),
+        Err(refusal) => refused(refusal, tick).into(),
     }
 }
 
@@ -111,34 +42,8 @@ pub extern "C" fn pocketmica_near(spans: &[i32], tick: u64) -> NearAnswer
     ensures { NearSays spans.now tick result }
 {
     match near_of(spans, tick) {
-        Ok(near) => NearAnswer {
-            refused: NOTHING,
-            height: near.height,
-            error: near.error,
-        },
-        Err(refusal) => NearAnswer {
-            refused: refused(refusal, tick),
-            height: nearest_30(0),
-            error: nearest_30(0),
-        },
-    }
-}
-
-// What was seen, handed out.
-fn hand_sighting(sighting: Sighting) -> SightingAnswer
-    ensures { result ≡ sighting_told sighting }
-{
-    match sighting {
-        Sighting::Seen(above) => SightingAnswer {
-            refused: NOTHING,
-            seen: true,
-            above,
-        },
-        Sighting::Hidden => SightingAnswer {
-            refused: NOTHING,
-            seen: false,
-            above: nearest_30(0),
-        },
+        Ok(near) => near.into(),
+        Err(refusal) => refused(refusal, tick).into(),
     }
 }
 
@@ -148,12 +53,8 @@ pub extern "C" fn pocketmica_sighting(spans: &[i32], line: i64, tick: u64) -> Si
     ensures { SightingSays spans.now line tick result }
 {
     match sighting_of(spans, line, tick) {
-        Ok(sighting) => hand_sighting(sighting),
-        Err(refusal) => SightingAnswer {
-            refused: refused(refusal, tick),
-            seen: false,
-            above: nearest_30(0),
-        },
+        Ok(sighting) => sighting.into(),
+        Err(refusal) => refused(refusal, tick).into(),
     }
 }
 
@@ -162,22 +63,23 @@ pub extern "C" fn pocketmica_sighting(spans: &[i32], line: i64, tick: u64) -> Si
 pub extern "C" fn pocketmica_spans(spans: &[i32], first: u64, end: u64) -> Part
     ensures { PartSays spans.now first «end» result }
 {
-    let empty = Part {
-        place: 0,
-        length: 0,
-    };
-    if check(spans).is_err() {
-        return empty;
-    }
-    let inside = first < end && end <= (spans.len() / Span::NUMBERS) as u64;
-    if inside {
-        Part {
+    match View::try_from(spans) {
+        Ok(view) if first < end && end <= view.spans() => Part {
             place: 4 * first,
             length: 4 * (end - first),
-        }
-    } else {
-        empty
+        },
+        _ => Part {
+            place: 0,
+            length: 0,
+        },
     }
+}
+
+// The first span of a file that does not meet the next one.
+fn gap_in(spans: &[i32]) -> Result<Option<u64>, Refusal>
+    ensures { elim result [ Ok o ↦ Good spans.now × elim o [ None ↦ AllMeet (almanac_in 1024 spans.now) | Some i ↦ (suc i < (almanac_in 1024 spans.now).spans) × (Meets (almanac_in 1024 spans.now) i → ⊥) × ((j : ℕ) → j < i → Meets (almanac_in 1024 spans.now) j) ] | Err e ↦ (Good spans.now → ⊥) × (e ≡ File (first_beyond spans.now)) ] }
+{
+    Ok(first_gap(&View::try_from(spans)?))
 }
 
 // The first span that does not meet the next one.
@@ -185,24 +87,9 @@ pub extern "C" fn pocketmica_spans(spans: &[i32], first: u64, end: u64) -> Part
 pub extern "C" fn pocketmica_gap(spans: &[i32]) -> GapAnswer
     ensures { GapSays spans.now result }
 {
-    match check(spans) {
-        Ok(()) => match first_gap(&View::new(spans)) {
-            Some(span) => GapAnswer {
-                refused: NOTHING,
-                found: true,
-                span,
-            },
-            None => GapAnswer {
-                refused: NOTHING,
-                found: false,
-                span: 0,
-            },
-        },
-        Err(refusal) => GapAnswer {
-            refused: refused(refusal, 0),
-            found: false,
-            span: 0,
-        },
+    match gap_in(spans) {
+        Ok(span) => span.into(),
+        Err(refusal) => refused(refusal, 0).into(),
     }
 }
 

@@ -1,19 +1,18 @@
 // In how many ticks a body is above a line: every tick is gone through, span by span, by three additions each.
-ghost use Rattle.std.specs.Prelude.{◌≡◌, suc, ◌+◌, ◌*◌, ◌/◌, ◌<◌, ◌≤◌, length, if◌then◌else◌, int_le};
-ghost use Rattle.bridge.specs.Answers.{told};
+ghost use Rattle.std.specs.Prelude.{◌≡◌, suc, ◌+◌, ◌*◌, ◌/◌, ◌<◌, ◌≤◌, length, if◌then◌else◌, int_le, Ok, Err};
+ghost use Rattle.almanac.specs.Refuses.{Refuses, Taken};
 ghost use Rattle.bridge.specs.Counts.{CountSays, count_to};
-ghost use Rattle.crossing.specs.Above.{over};
+ghost use Rattle.crossing.specs.Above.{above, over};
 ghost use Rattle.height.specs.Almanacs.{ticks};
+ghost use Rattle.height.specs.Files.{almanac_in};
 ghost use Rattle.height.specs.Views.{almanac_of};
 
 use super::answer::CountAnswer;
-use super::level::level_of;
-use super::refuse::{NOTHING, refused};
-use almanac::check::check_line;
+use super::refuse::refused;
 use height::file::View;
+use height::line::Line;
 use height::refusal::Refusal;
 use height::source::Source;
-use height::view::check;
 use reading::stretch::Stretch;
 
 // One more if a height is not below a level.
@@ -48,14 +47,13 @@ fn ticks_over(view: View, level: i64) -> u64
     count
 }
 
-// Why a question about a line is refused.
-fn refuse_count(refusal: Refusal) -> CountAnswer
-    ensures { result ≡ record { refused = told refusal 0; ticks = 0 } }
+// In how many ticks a body is above a line, or why that is refused.
+fn count_in(spans: &[i32], line: i64) -> Result<u64, Refusal>
+    ensures { elim result [ Ok n ↦ Taken spans.now line 0 0 × (n ≡ count_to (above (almanac_in 1024 spans.now) line) (ticks (almanac_in 1024 spans.now))) | Err e ↦ Refuses spans.now line 0 0 e ] }
 {
-    CountAnswer {
-        refused: refused(refusal, 0),
-        ticks: 0,
-    }
+    let view = View::try_from(spans)?;
+    let line = Line::try_from(line)?;
+    Ok(ticks_over(view, line.level()))
 }
 
 // In how many ticks a body is above a line.
@@ -63,14 +61,8 @@ fn refuse_count(refusal: Refusal) -> CountAnswer
 pub extern "C" fn pocketmica_count(spans: &[i32], line: i64) -> CountAnswer
     ensures { CountSays spans.now line result }
 {
-    if let Err(refusal) = check(spans) {
-        return refuse_count(refusal);
-    }
-    if let Err(refusal) = check_line(line) {
-        return refuse_count(refusal);
-    }
-    CountAnswer {
-        refused: NOTHING,
-        ticks: ticks_over(View::new(spans), level_of(line)),
+    match count_in(spans, line) {
+        Ok(ticks) => ticks.into(),
+        Err(refusal) => refused(refusal, 0).into(),
     }
 }

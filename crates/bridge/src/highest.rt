@@ -2,14 +2,16 @@
 ghost use Rattle.bridge.specs.Peaks.{HighestSays, Peaked};
 ghost use Rattle.height.specs.Almanacs.{ticks as ticks_of};
 ghost use Rattle.height.specs.Views.{almanac_of};
-ghost use Rattle.std.specs.Prelude.{◌≡◌, ◌≤ℤ◌, ◌<ℤ◌};
+ghost use Rattle.height.specs.Files.{Good, almanac_in, first_beyond};
+ghost use Rattle.height.specs.declared.refusal.Refusal.TheVariants.{File};
+ghost use Rattle.std.specs.Prelude.{◌≡◌, ◌≤ℤ◌, ◌<ℤ◌, Ok, Err};
 
 use super::answer::HighestAnswer;
-use super::refuse::{NOTHING, refused};
+use super::refuse::refused;
 use height::file::View;
 use height::meter::Meter;
-use height::source::height;
-use height::view::check;
+use height::refusal::Refusal;
+use height::source::Source;
 use reading::cursor::Cursor;
 
 // A tick, and the height in it, times 2^30.
@@ -38,7 +40,7 @@ fn start_of(view: View) -> Peak
     let mut meter = Meter::new();
     Peak {
         tick: 0,
-        height: height(&view, 0, &mut meter),
+        height: view.height(0, &mut meter),
     }
 }
 
@@ -53,19 +55,20 @@ fn peak_of(view: View) -> Peak
     peak
 }
 
+// The first of the highest ticks, or why the file is refused.
+fn highest_in(spans: &[i32]) -> Result<Peak, Refusal>
+    ensures { elim result [ Ok p ↦ Good spans.now × Peaked (almanac_in 1024 spans.now) (ticks_of (almanac_in 1024 spans.now)) p | Err e ↦ (Good spans.now → ⊥) × (e ≡ File (first_beyond spans.now)) ] }
+{
+    Ok(peak_of(View::try_from(spans)?))
+}
+
 // The first of the ticks in which a body is highest.
 #[unsafe(no_mangle)]
 pub extern "C" fn pocketmica_highest(spans: &[i32]) -> HighestAnswer
     ensures { HighestSays spans.now result }
 {
-    match check(spans) {
-        Ok(()) => HighestAnswer {
-            refused: NOTHING,
-            tick: peak_of(View::new(spans)).tick,
-        },
-        Err(refusal) => HighestAnswer {
-            refused: refused(refusal, 0),
-            tick: 0,
-        },
+    match highest_in(spans) {
+        Ok(peak) => peak.into(),
+        Err(refusal) => refused(refusal, 0).into(),
     }
 }

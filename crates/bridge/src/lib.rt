@@ -6,7 +6,6 @@
 //   ask      the first tick, heights, sightings, parts of the file
 //   table    all risings and settings, written into lent room
 //   highest  in which tick a body is highest
-//   level    a line as heights are kept
 //   count    in how many ticks a body is above a line
 #![tactic(auto)]
 
@@ -14,6 +13,5 @@ pub mod answer;
 pub mod ask;
 pub mod count;
 pub mod highest;
-mod level;
 pub mod refuse;
 pub mod table;

@@ -1,3 +1,4 @@
 pub mod Above
 pub mod Events
 pub mod Promise
+pub mod Texts

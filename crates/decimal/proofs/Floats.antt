@@ -1,9 +1,10 @@
 -- The texts of binary64 numbers. Assumes nothing.
-use Rattle.std.proofs.Common.{◌≡◌, ℕ, zero, suc, ◌+◌, ◌*◌, ◌/◌, ◌%◌, ◌^◌, ◌<◌, ◌≤◌, Bool, true, List, [], ◌++◌, ℤ, pos, negsuc, ◌-ℤ◌, ◌*ℤ◌, neg_ℤ, nat_abs, codes, sym, refl, ap, ◌∙◌, subst, lt_of_lt_of_le, lt_of_le_of_lt, le_of_lt, div-lt_iff_lt-mul, arith, lit<, pow_pos, pow_mono, pow-add}
+use Rattle.std.proofs.Common.{◌≡◌, ℕ, zero, suc, ◌+◌, ◌*◌, ◌/◌, ◌%◌, ◌^◌, ◌<◌, ◌≤◌, Bool, true, List, [], ◌++◌, ℤ, pos, negsuc, ◌-ℤ◌, ◌*ℤ◌, neg_ℤ, nat_abs, codes, sym, refl, ap, ◌∙◌, subst, lt_of_lt_of_le, lt_of_le_of_lt, le_of_lt, le_trans, div-lt_iff_lt-mul, arith, lit<, pow_pos, pow_mono, pow-add}
 use native.Mathlib.Nat.{eq_of_mul-eq-mul_right, zero-div, zero-mod}
 use lib.Ieee.{Float, nan, inf, fin, up, down, size}
 use lib.Ieee.Exact.{HasValue}
 use lib.Pow.{pow-lt}
+use Rattle.std.proofs.lemmas.Int.{ints}
 use Rattle.std.proofs.lemmas.Fmt.{decimal_digit}
 use Rattle.binary.specs.Nearest.{IsOver, RoundedOver, below_zero, half_place, leading, leading_one, nearest_over, rounded}
 use Rattle.binary.specs.Promise.{with_sign}
@@ -13,6 +14,7 @@ use Rattle.binary.proofs.Stands.{gap_is, near_enough, off_by}
 use Rattle.decimal.specs.Figures.{error_text, float_text, fraction_text, part_text}
 use Rattle.decimal.specs.Promise.{ErrorExact, FloatExact, OffBy, Says, SaysOver, WrittenNear, Zero}
 use Rattle.decimal.proofs.Back.{reads_back}
+use Rattle.decimal.proofs.Writing.{held}
 
 -- one value over another denominator
 over : (x : Float) (s : Bool) (a b c d : ℕ) → 0 < b → HasValue x s a b → c * b ≡ a * d → HasValue x s c d
@@ -34,8 +36,34 @@ whole_fits : (bits n : ℕ) → n ≤ 2 ^ (bits + 63) → n / 2 ^ bits < 2 ^ 64
 whole_fits bits n h =
     (div-lt_iff_lt-mul (pow_pos bits)).1 (lt_of_le_of_lt h (subst (λ (z : ℕ). 2 ^ (bits + 63) < z) (pow-add 2 64 bits) (pow-lt {i = bits + 63} {j = 64 + bits} (omega arith))))
 
+-- and a leading one, with 53 places more
+one_fits : (bits n a : ℕ) → n < 2 ^ (bits + 63) → a ≡ leading_one (size n) → a / 2 ^ (bits + 53) < 2 ^ 64
+one_fits bits n a h e =
+    whole_fits (bits + 53) a (le_of_lt (lt_of_lt_of_le (one_below n a (bits + 63) h e) (pow_mono {i = bits + 63} {j = bits + 53 + 63} (omega arith))))
+
 below_500 : (bits n : ℕ) → bits ≤ 400 → n < 2 ^ (bits + 63) → n < 2 ^ 500
 below_500 bits n B h = lt_of_lt_of_le h (pow_mono {i = bits + 63} {j = 500} (omega arith))
+
+-- ---- what the code needs of an h that it holds as its bits
+module _ (bits : ℕ) (h : ℤ) (B : bits ≤ 63) (H : nat_abs h < 2 ^ (bits + 63)) where
+  below_126 : nat_abs h < 2 ^ 126
+  below_126 = lt_of_lt_of_le H (pow_mono {i = bits + 63} {j = 126} (omega arith))
+
+  held_is : held h ≡ h
+  held_is = omega (arith, ints, below_126)
+
+  pub float_fits : nat_abs (held h) < 2 ^ 126
+  float_fits = subst (λ (z : ℤ). nat_abs z < 2 ^ 126) (sym held_is) below_126
+
+  pub rounded_fits : (r : ℤ) → ((k : ℕ) → nat_abs (held h) < 2 ^ k → nat_abs r ≤ 2 ^ k) → (bits ≤ 125) × (nat_abs (held r) / 2 ^ bits < 2 ^ 64)
+  rounded_fits r bound =
+      let small = bound (bits + 63) (subst (λ (z : ℤ). nat_abs z < 2 ^ (bits + 63)) (sym held_is) H) in
+      let fits : nat_abs r ≤ 2 ^ 126 = le_trans small (pow_mono {i = bits + 63} {j = 126} (omega arith)) in
+      let back : held r ≡ r = omega (arith, ints) in
+      (omega arith, subst (λ (z : ℤ). nat_abs z / 2 ^ bits < 2 ^ 64) (sym back) (whole_fits bits (nat_abs r) small))
+
+  pub error_fits : (n a : ℕ) → n ≡ nat_abs (held h) → a ≡ leading_one (size n) → (bits + 53 ≤ 125) × (a / 2 ^ (bits + 53) < 2 ^ 64)
+  error_fits n a N A = (omega arith, one_fits bits n a (subst (λ (m : ℕ). m < 2 ^ (bits + 63)) (sym (N ∙ ap nat_abs held_is)) H) A)
 
 -- ---- what both texts are read as
 module _ (bits : ℕ) (h : ℤ) (B : bits ≤ 400) (H : nat_abs h < 2 ^ (bits + 63)) where
@@ -50,8 +78,7 @@ module _ (bits : ℕ) (h : ℤ) (B : bits ≤ 400) (H : nat_abs h < 2 ^ (bits + 
 
   error_read : SaysOver (bits + 53) (pos one) (error_text bits h)
   error_read =
-      reads_back (bits + 53) (pos one)
-      (whole_fits (bits + 53) one (le_of_lt (lt_of_lt_of_le (one_below (nat_abs h) one (bits + 63) H refl) (pow_mono {i = bits + 63} {j = bits + 53 + 63} (omega arith)))))
+      reads_back (bits + 53) (pos one) (one_fits bits (nat_abs h) one H refl)
 
 pub float_exact : FloatExact
 float_exact bits h B H = says bits (rounded h) (nearest_over bits h) (float_text bits h) (float_read bits h B H) (near_is bits h B H).over

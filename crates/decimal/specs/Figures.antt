@@ -1,13 +1,8 @@
 -- A whole number over a power of two, written in decimal figures with nothing rounded. Assumes nothing: these are definitions.
-use Rattle.std.specs.Prelude.{◌≡◌, ℕ, zero, suc, ◌+◌, ◌*◌, ◌/◌, ◌%◌, ◌^◌, cond, List, [], ◌∷◌, ◌++◌, ℤ, Ok, Err, decimal, Result, ◌==◌, unsigned_abs}
+use Rattle.std.specs.Prelude.{ℕ, zero, suc, ◌+◌, ◌*◌, ◌/◌, ◌%◌, ◌^◌, cond, List, [], ◌∷◌, ◌++◌, ℤ, decimal, ◌==◌, unsigned_abs}
 use Rattle.std.specs.Float.Ieee.{size}
 use Rattle.std.specs.Fmt.{sign_text}
 use Rattle.binary.specs.Nearest.{below_zero, leading_one, rounded}
-
--- what was written is at the end of the text, if there was memory for it
-abbrev pub Appends : {E : Type 0} → (was new is : List ℕ) → Result (Unit {0}) E → Type 0
-Appends was new is (Ok u) = is ≡ was ++ new
-Appends was new is (Err e) = Unit {0}
 
 -- The figures behind the point of f / 2 ^ k, for f below 2 ^ k. Ten times f / 2 ^ (k + 1) is 5 f / 2 ^ k: its whole part is the first figure,
 -- and the others are those of its rest, which is over 2 ^ k. So there are k figures at most.

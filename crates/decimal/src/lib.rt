@@ -9,4 +9,4 @@ mod figures;
 mod float;
 pub mod theorems;
 
-pub use float::{put_error_30, put_error_48, put_float_30, put_float_48};
+pub use float::{HalfPlace, Nearest};

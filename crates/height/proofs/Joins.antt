@@ -1,8 +1,8 @@
 -- The test whether two spans meet. Assumes nothing.
-use Rattle.std.proofs.Common.{◌≡◌, ℕ, suc, ◌+◌, ◌-◌, ◌≤◌, max, leb, ℤ, ◌-ℤ◌, nat_abs, Decides, sym, ap, ◌∙◌, add-one}
+use Rattle.std.proofs.Common.{◌≡◌, ℕ, suc, ◌+◌, ◌-◌, ◌≤◌, ◌<◌, max, leb, ℤ, ◌-ℤ◌, nat_abs, Some, None, Option, MatchOption, Decides, sym, ap, ◌∙◌, add-one, arith}
 use Rattle.std.proofs.lemmas.Bool.{le-leb, leb-true}
 use Rattle.height.specs.declared.span.Span.{Span}
-use Rattle.height.specs.Almanacs.{Almanac, Meets}
+use Rattle.height.specs.Almanacs.{Almanac, Meets, AllMeet}
 use Rattle.height.specs.Spans.{height, slope}
 
 -- what the code worked out from two spans that it read, compared, decides whether they meet
@@ -33,3 +33,13 @@ met m i n one next x y a b j k fine coarse one-is next-at x-is y-is a-is j-is k-
 
     back : Meets m i → a ≤ b
     back h = rw (left, right) h
+
+-- the first of all joins at which two spans do not meet
+abbrev pub FirstApart : (m : Almanac) (r : Option ℕ) → Type 0
+FirstApart m None = AllMeet m
+FirstApart m (Some i) = (suc i < m.spans) × (Meets m i → ⊥) × ((j : ℕ) → j < i → Meets m j)
+
+-- as the search through all of them finds it
+pub first_apart : (m : Almanac) (n : ℕ) (r : Option ℕ) → n ≡ m.spans → MatchOption r ((k : ℕ) → 0 ≤ k → k < n - 1 → Meets m k) (λ i. (0 ≤ i) × (i < n - 1) × (Meets m i → ⊥) × ((k : ℕ) → 0 ≤ k → k < i → Meets m k)) → FirstApart m r
+first_apart m n None e h = λ i l. h i (omega arith) (omega arith)
+first_apart m n (Some i) e h = (omega (arith, h.1), h.2, λ j l. h.3 j (omega arith) l)

@@ -5,4 +5,5 @@ pub mod Meters
 pub mod Promise
 pub mod Refusals
 pub mod Spans
+pub mod Texts
 pub mod Views

@@ -25,10 +25,5 @@ pub fn first_gap<S: Source>(source: &S) -> Option<u64>
     ensures { elim result [ None ↦ AllMeet (S.almanac source.now) | Some i ↦ (suc i < (S.almanac source.now).spans) × (Meets (S.almanac source.now) i → ⊥) × ((j : ℕ) → j < i → Meets (S.almanac source.now) j) ] }
 {
     let joins = source.spans() - 1;
-    for i in 0..joins {
-        if !meets(source, i) {
-            return Some(i);
-        }
-    }
-    None
+    (0..joins).find(|i| !meets(source, *i))
 }

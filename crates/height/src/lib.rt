@@ -3,6 +3,7 @@
 //   span      a span by value: its height in a tick, its slope
 //   meter     how many heights were worked out
 //   refusal   why something is not taken, with a number and a place
+//   line      a line that a body is asked against, within 2^24
 //   file      the checked view of a lent file
 //   view      the check of a file, and what its view answers: spans, heights, rounded heights, whether its spans meet
 //   theorems  the promises that hold of every span and every file, each on a function
@@ -10,6 +11,7 @@
 
 pub mod file;
 pub mod join;
+pub mod line;
 pub mod meter;
 pub mod refusal;
 pub mod round;

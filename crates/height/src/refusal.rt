@@ -1,6 +1,9 @@
 // Why something is not taken: one list for all layers. A refusal has a number and a place.
 ghost use Rattle.height.specs.Refusals.{refusal_number, refusal_place};
-ghost use Rattle.std.specs.Prelude.{◌≡◌};
+ghost use Rattle.height.specs.Texts.{reason_text, refusal_text};
+ghost use Rattle.std.specs.Prelude.{◌≡◌, Some};
+
+use std::fmt;
 
 #[derive(Clone, Copy, PartialEq, Eq, Debug)]
 pub enum Refusal {
@@ -17,6 +20,7 @@ pub enum Refusal {
 }
 
 impl Refusal {
+    // Users and C are told a refusal by its number and its place.
     pub fn number(self) -> u64
         ensures { result ≡ refusal_number self }
     {
@@ -39,5 +43,32 @@ impl Refusal {
             Refusal::Asked(number) => number as i128,
             Refusal::Text(line) => line as i128,
         }
+    }
+
+    // Why it is refused.
+    fn reason(self) -> &'static str
+        ensures { result.now ≡ reason_text self }
+    {
+        match self {
+            Refusal::File(_) => "the file is not 1 to 4096 spans of four numbers within 16777216",
+            Refusal::Line => "the line is beyond 16777216",
+            Refusal::Tick(_) => "the tick is not in the file",
+            Refusal::Asked(_) => "something else is asked for than above, rise or set",
+            Refusal::Text(_) => "the text cannot be read",
+        }
+    }
+}
+
+impl fmt::Display for Refusal {
+    ghost output = { λ e. Some (refusal_text e) };
+
+    fn fmt<W: fmt::Write>(&self, f: &mut fmt::Formatter<W>) -> fmt::Result {
+        write!(
+            f,
+            "refused {} at {}: {}",
+            self.number(),
+            self.place(),
+            self.reason()
+        )
     }
 }

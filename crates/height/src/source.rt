@@ -1,4 +1,4 @@
-// Whatever has spans: a checked file, and later what is made of files. Heights and joins are worked out here, once for all of them.
+// Whatever has spans: a checked file, and later what is made of files. Its ticks and heights are worked out here, once for all of them.
 ghost use Rattle.std.specs.Prelude.{◌≡◌, suc, ◌*◌, ◌^◌, ◌<◌, ◌≤◌, unsigned_abs};
 ghost use Rattle.height.specs.Almanacs.{Almanac, height_at, ticks as ticks_of};
 ghost use Rattle.height.specs.Meters.{raised};
@@ -29,26 +29,26 @@ pub trait Source {
         requires { at < (almanac self.now).spans }
         ensures value { result ≡ (almanac self.now).span at }
         ensures small { Within (2 ^ 25) result };
-}
 
-// How many ticks there are.
-pub fn ticks<S: Source>(source: &S) -> u64
-    ensures value { result ≡ ticks_of (S.almanac source.now) }
-    ensures few { result ≤ 2 ^ 22 }
-{
-    source.spans() * source.span_ticks()
-}
+    // How many ticks there are.
+    final fn ticks(&self) -> u64
+        ensures value { result ≡ ticks_of (almanac self.now) }
+        ensures few { result ≤ 2 ^ 22 }
+    {
+        self.spans() * self.span_ticks()
+    }
 
-// The height in a tick, times 2^30.
-pub fn height<S: Source>(source: &S, tick: u64, meter: &mut Meter) -> i64
-    requires { tick < ticks_of (S.almanac source.now) }
-    ensures value { result ≡ height_at (S.almanac source.now) tick }
-    ensures size { unsigned_abs result ≤ 2 ^ 57 }
-    ensures counted { meter.new ≡ raised meter.old }
-{
-    let n = source.span_ticks();
-    let span = source.span(tick / n);
-    span.height(tick % n, meter)
+    // The height in a tick, times 2^30.
+    final fn height(&self, tick: u64, meter: &mut Meter) -> i64
+        requires { tick < ticks_of (almanac self.now) }
+        ensures value { result ≡ height_at (almanac self.now) tick }
+        ensures size { unsigned_abs result ≤ 2 ^ 57 }
+        ensures counted { meter.new ≡ raised meter.old }
+    {
+        let n = self.span_ticks();
+        let span = self.span(tick / n);
+        span.height(tick % n, meter)
+    }
 }
 
 impl Source for View<'_> {

@@ -1,4 +1,3 @@
 pub mod Ring
 pub mod Size
-pub mod Cast
 pub mod Floor

@@ -51,6 +51,12 @@ fn no_memory(rt: &HostRuntime) -> Stop {
     Stop::Failed
 }
 
+// Prints a text of the program's own.
+fn print(rt: &HostRuntime, text: &str) -> Result<(), Stop> {
+    let _ = rt.print(text);
+    Ok(())
+}
+
 // Hands each line of an input to the session, and prints what it writes at once.
 fn feed_all<B: BufRead>(
     rt: &HostRuntime,
@@ -65,18 +71,19 @@ fn feed_all<B: BufRead>(
             break;
         }
         let mut line = Vec::new(heap);
-        match input.read_until(b'\n', &mut line) {
-            Ok(0) => break,
-            Ok(_) => {}
-            Err(e) => return Err(failed(rt, name, e)),
+        let read = input
+            .read_until(b'\n', &mut line)
+            .map_err(|e| failed(rt, name, e))?;
+        if read == 0 {
+            break;
         }
         let mut out = String::new(heap);
-        if session.feed(heap, line.as_slice(), &mut out).is_err() {
-            return Err(no_memory(rt));
-        }
-        if let Err(e) = stdout.write_all(out.as_bytes()) {
-            return Err(failed(rt, "standard output", e));
-        }
+        session
+            .feed(heap, line.as_slice(), &mut out)
+            .map_err(|_| no_memory(rt))?;
+        stdout
+            .write_all(out.as_bytes())
+            .map_err(|e| failed(rt, "standard output", e))?;
     }
     Ok(())
 }
@@ -84,29 +91,21 @@ fn feed_all<B: BufRead>(
 // One named input: a file, or standard input for `-`.
 fn feed_named(rt: &HostRuntime, session: &mut Session, name: &str) -> Result<(), Stop> {
     if name == "-" {
-        return match BufReader::new(rt.alloc(), rt.stdin()) {
-            Ok(mut input) => feed_all(rt, session, "standard input", &mut input),
-            Err(e) => Err(failed(rt, "standard input", e)),
-        };
+        let name = "standard input";
+        let mut input = BufReader::new(rt.alloc(), rt.stdin()).map_err(|e| failed(rt, name, e))?;
+        return feed_all(rt, session, name, &mut input);
     }
-    let file = match fs::open(rt, name) {
-        Ok(file) => file,
-        Err(e) => return Err(failed(rt, name, e)),
-    };
-    match BufReader::new(rt.alloc(), file) {
-        Ok(mut input) => feed_all(rt, session, name, &mut input),
-        Err(e) => Err(failed(rt, name, e)),
-    }
+    let file = fs::open(rt, name).map_err(|e| failed(rt, name, e))?;
+    let mut input = BufReader::new(rt.alloc(), file).map_err(|e| failed(rt, name, e))?;
+    feed_all(rt, session, name, &mut input)
 }
 
 // Sees that every named file can be opened, before anything is answered.
 fn open_all(rt: &HostRuntime, names: &[String]) -> Result<(), Stop> {
     for name in names {
-        if name.as_str() == "-" {
-            continue;
-        }
-        if let Err(e) = fs::open(rt, name.as_str()) {
-            return Err(failed(rt, name.as_str(), e));
+        let name = name.as_str();
+        if name != "-" {
+            let _ = fs::open(rt, name).map_err(|e| failed(rt, name, e))?;
         }
     }
     Ok(())
@@ -115,7 +114,7 @@ fn open_all(rt: &HostRuntime, names: &[String]) -> Result<(), Stop> {
 fn run(rt: &HostRuntime, names: &[String]) -> Result<(), Stop> {
     let mut session = Session::new(rt.alloc());
     open_all(rt, names)?;
-    if names.len() == 0 {
+    if names.is_empty() {
         feed_named(rt, &mut session, "-")?;
     }
     for name in names {
@@ -141,22 +140,12 @@ fn arguments(rt: &HostRuntime) -> io::Result<Vec<String>> {
 
 // Answers what is asked for; each reason not to has been said where it belongs.
 fn answer(rt: &HostRuntime) -> Result<(), Stop> {
-    let names = match arguments(rt) {
-        Ok(names) => names,
-        Err(e) => return Err(failed(rt, "arguments", e)),
-    };
-    if names.len() == 1 {
-        let only = names[0].as_str();
-        if only == "--help" {
-            let _ = rt.print(HELP);
-            return Ok(());
-        }
-        if only == "--version" {
-            let _ = rt.print(VERSION);
-            return Ok(());
-        }
+    let names = arguments(rt).map_err(|e| failed(rt, "arguments", e))?;
+    match names.as_slice() {
+        [only] if only.as_str() == "--help" => print(rt, HELP),
+        [only] if only.as_str() == "--version" => print(rt, VERSION),
+        names => run(rt, names),
     }
-    run(rt, names.as_slice())
 }
 
 fn main(rt: HostRuntime) -> ExitCode {

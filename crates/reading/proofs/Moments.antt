@@ -1,8 +1,9 @@
 -- What a cursor gives. Assumes nothing.
-use Rattle.std.proofs.Common.{◌≡◌, ℕ, ◌+◌, ◌*◌, ◌/◌, ◌^◌, ◌<◌, ◌≤◌, eqb, List, [], ◌∷◌, ◌++◌, length, get_or, ℤ, pos, nat_abs, sym, ap, ◌∙◌, arith}
+use Rattle.std.proofs.Common.{◌≡◌, ℕ, ◌+◌, ◌*◌, ◌/◌, ◌^◌, ◌<◌, ◌≤◌, eqb, List, map, ◌-◌, length, get_or, ℤ, pos, nat_abs, sym, ap, ◌∙◌, arith}
 use lib.Arith.{digits_mod}
-use Rattle.std.proofs.lemmas.List.FromFn.{map-range_with_len_more}
-use Rattle.height.specs.Almanacs.{Almanac, height_at}
+use Rattle.std.specs.List.{range_with_len}
+use Rattle.std.proofs.lemmas.Simd.{map-map}
+use Rattle.height.specs.Almanacs.{Almanac, ticks, height_at}
 use Rattle.height.specs.Files.{span_at}
 use Rattle.height.specs.Spans.{height, Within}
 use Rattle.height.proofs.Ticks.{height_in_span}
@@ -24,7 +25,13 @@ pub moment_is : (m : Almanac) (i u t : ℕ) (x : ℤ) → u < m.fine → t ≡ i
 moment_is m i u t x h t-is x-is =
     (λ j. record { tick = t-is j; height = (x-is ∙ sym (height_in_span m i u h)) j; first = eqb (sym (digits_mod i h) j) 0 })
 
--- the height of one tick more
-pub one_more : (m k : Almanac) (t u : ℕ) (xs ys : List ℤ) (x : ℤ) → k ≡ m → u ≡ t + 1 → x ≡ height_at k t → xs ≡ in_turn (height_at m) t → ys ≡ xs ++ x ∷ [] → ys ≡ in_turn (height_at m) u
-one_more m k t u xs ys x k-is u-is x-is xs-are ys-are =
-    ys-are ∙ (λ i. xs-are i ++ (x-is ∙ ap (λ (n : Almanac). height_at n t) k-is) i ∷ []) ∙ sym (map-range_with_len_more (height_at m) 0 t t (omega arith)) ∙ ap (in_turn (height_at m)) (sym u-is)
+-- the heights that a cursor gives which stands before tick 0
+pub heights_in_turn : (m k : Almanac) (t : ℕ) → k ≡ m → t ≡ 0 → map (λ (x : Moment). x.height) (map (moment k) (range_with_len t (ticks k - t))) ≡ in_turn (height_at m) (ticks m)
+heights_in_turn m k t same start =
+    map-map (λ (x : Moment). x.height) (moment k) (range_with_len t (ticks k - t)) ∙ (λ i. in_turn_from (same i) (start i)) ∙ ap (in_turn (height_at m)) (from_zero (ticks m))
+  where
+    from_zero : (n : ℕ) → n - 0 ≡ n
+    from_zero n = omega arith
+
+    in_turn_from : Almanac → ℕ → List ℤ
+    in_turn_from n u = map (height_at n) (range_with_len u (ticks n - u))

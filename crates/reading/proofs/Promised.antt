@@ -2,6 +2,7 @@
 use Rattle.std.proofs.Common.{◌≡◌, ℕ, zero, suc, ◌+◌, ◌-◌, ◌*◌, ◌/◌, ◌%◌, ◌^◌, ◌<◌, ◌≤◌, List, ◌∷◌, map, length, get_or, take, drop, ℤ, pos, nat_abs, ◌<ℤ◌, Some, None, sym, refl, ap, ◌∙◌, subst, lt_of_le_of_lt, mod-lt, div-lt_iff_lt-mul, div-add-mod', add-one, arith, lit<, lit≤, length-drop, length-take, get_or-drop, get_or-take}
 use Rattle.std.specs.List.{range_with_len}
 use Rattle.std.proofs.lemmas.List.FromFn.{length-map-range_with_len}
+use Rattle.std.proofs.lemmas.Iterator.{YieldsList}
 use Rattle.std.proofs.lemmas.Iterator.Consumers.{YieldsList-from_shown}
 use Rattle.binary.specs.Nearest.{nearest_over}
 use Rattle.binary.proofs.Stands.{in_order_stands, half_a_unit_stands, zero_stands}
@@ -71,9 +72,9 @@ shown_more m k x t u n j x-is k-is u-is n_is =
 left_of : Cursor → List Moment
 left_of c = map (moment (almanac_under c)) (range_with_len (tick_of c) (ticks (almanac_under c) - tick_of c))
 
-pub goes_through : GoesThrough
+pub moments_of : (c : Cursor) → YieldsList Steps (λ x. x) c (map (moment (almanac_under c)) (range_with_len (tick_of c) (ticks (almanac_under c) - tick_of c)))
 unfolding left_of
-goes_through c = (YieldsList-from_shown Steps (λ x. x) left_of at_end before_end c).runs
+moments_of c = YieldsList-from_shown Steps (λ x. x) left_of at_end before_end c
   where
     at_end : (c e : Cursor) → Steps c None e → length (left_of c) ≡ 0
     at_end c e s = length-map-range_with_len (moment (almanac_under c)) (tick_of c) (ticks (almanac_under c) - tick_of c) ∙ omega (arith, s.0)
@@ -83,6 +84,9 @@ goes_through c = (YieldsList-from_shown Steps (λ x. x) left_of at_end before_en
         let same = ap (almanac_in 1024) s.2.file in
         shown_more (almanac_under c) (almanac_under e) x (tick_of c) (tick_of e) (ticks (almanac_under c) - tick_of c) (ticks (almanac_under e) - tick_of e)
         s.1 same s.2.tick (omega (arith, s.0, s.2.tick, ap ticks same))
+
+pub goes_through : GoesThrough
+goes_through c = (moments_of c).runs
 
 left_in_span : Stretch → List Moment
 left_in_span s = map (moment (almanac_under s.cursor)) (range_with_len (tick_of s.cursor) (1024 - s.cursor.at))

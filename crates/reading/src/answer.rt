@@ -7,7 +7,7 @@ pub struct Near {
     pub error: f64,
 }
 
-// A body against a line: seen, with how many thousandths of a degree it is above the line; or hidden, below it.
+// A body against a line: seen, with how many thousandths of a degree it is above the line; or hidden, below it. The project's users asked for these two names, so it is no Option.
 #[derive(Clone, Copy)]
 pub enum Sighting {
     Seen(f64),

@@ -12,9 +12,5 @@ use std::alloc::{AllocError, Global};
 pub fn all_heights(heap: Global, view: View) -> Result<Vec<i64>, AllocError>
     ensures { IfOk result (λ v. v.items ≡ in_turn (height_at (almanac_of view.entry)) (ticks_of (almanac_of view.entry))) }
 {
-    let mut heights = Vec::new(heap);
-    for moment in Cursor::new(view) {
-        heights.push(moment.height)?;
-    }
-    Ok(heights)
+    Cursor::new(view).map(|moment| moment.height).collect(heap)
 }

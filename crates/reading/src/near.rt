@@ -4,9 +4,9 @@ ghost use Rattle.height.specs.Almanacs.{height_at, ticks as ticks_of};
 ghost use Rattle.reading.specs.Readings.{Nears};
 
 use super::answer::Near;
-use binary::{half_place_30, nearest_30};
+use binary::{half_place, nearest};
 use height::meter::Meter;
-use height::source::{Source, height};
+use height::source::Source;
 
 // The height in a tick, rounded once.
 pub fn near<S: Source>(source: &S, tick: u64) -> Near
@@ -14,9 +14,9 @@ pub fn near<S: Source>(source: &S, tick: u64) -> Near
     ensures { Nears (height_at (S.almanac source.now) tick) result }
 {
     let mut meter = Meter::new();
-    let exact = height(source, tick, &mut meter);
+    let exact = source.height(tick, &mut meter) as i128;
     Near {
-        height: nearest_30(exact),
-        error: half_place_30(exact),
+        height: nearest::<30>(exact),
+        error: half_place::<30>(exact),
     }
 }

@@ -1,27 +1,24 @@
 // A body seen over a line, or hidden.
-ghost use Rattle.std.specs.Prelude.{◌≡◌, ◌^◌, ◌<◌, ◌≤◌, pos, ◌≤ℤ◌, unsigned_abs};
+ghost use Rattle.std.specs.Prelude.{◌≡◌, ◌^◌, ◌<◌, pos, ◌≤ℤ◌, unsigned_abs};
 ghost use Rattle.binary.specs.Nearest.{nearest_over};
 ghost use Rattle.binary.specs.Promise.{Plain};
 ghost use Rattle.height.specs.Almanacs.{height_at, ticks as ticks_of};
 ghost use Rattle.reading.specs.Readings.{Sights, above_line};
 
 use super::answer::Sighting;
-use binary::nearest_30;
+use binary::nearest;
+use height::line::Line;
 use height::meter::Meter;
-use height::source::{Source, height};
-
-// What a height is multiplied by.
-const UNIT: i64 = 1 << 30;
+use height::source::Source;
 
 // How far the height in a tick is above a line, times 2^30.
-pub fn above<S: Source>(source: &S, line: i64, tick: u64) -> i64
-    requires inside { tick < ticks_of (S.almanac source.now) }
-    requires small { unsigned_abs line ≤ 2 ^ 24 }
-    ensures value { result ≡ above_line (height_at (S.almanac source.now) tick) line }
+pub fn above<S: Source>(source: &S, line: Line, tick: u64) -> i64
+    requires { tick < ticks_of (S.almanac source.now) }
+    ensures value { result ≡ above_line (height_at (S.almanac source.now) tick) line.thousandths }
     ensures size { unsigned_abs result < 2 ^ 59 }
 {
     let mut meter = Meter::new();
-    height(source, tick, &mut meter) - line * UNIT
+    source.height(tick, &mut meter) - line.level()
 }
 
 // The nearest binary64 number to how far a body is above a line.
@@ -30,14 +27,13 @@ fn nearest_above(above: i64) -> f64
     ensures value { result ≡ nearest_over 30 above }
     ensures plain { Plain result }
 {
-    nearest_30(above)
+    nearest::<30>(above as i128)
 }
 
 // Whether a body is seen over a line in a tick, and how high over it. On the line it is seen, at +0.0.
-pub fn sighting<S: Source>(source: &S, line: i64, tick: u64) -> Sighting
-    requires inside { tick < ticks_of (S.almanac source.now) }
-    requires small { unsigned_abs line ≤ 2 ^ 24 }
-    ensures { Sights (height_at (S.almanac source.now) tick) line result }
+pub fn sighting<S: Source>(source: &S, line: Line, tick: u64) -> Sighting
+    requires { tick < ticks_of (S.almanac source.now) }
+    ensures { Sights (height_at (S.almanac source.now) tick) line.thousandths result }
 {
     let above = above(source, line, tick);
     let seen = above >= 0;

@@ -1,7 +1,8 @@
 // The steps of a cursor: from tick to tick by three additions, and anew with each span.
-ghost use Rattle.std.specs.Prelude.{◌≡◌, ◌+◌, ◌-◌, ◌/◌, ◌<◌, length, if◌then◌else◌, nat_lt};
+ghost use Rattle.std.specs.Prelude.{◌≡◌, ◌+◌, ◌-◌, ◌/◌, ◌<◌, length, pos, Ok, Err};
 ghost use Rattle.height.specs.Almanacs.{ticks as ticks_of};
 ghost use Rattle.height.specs.Views.{almanac_of};
+ghost use Rattle.height.specs.declared.refusal.Refusal.TheVariants.{Tick};
 ghost use Rattle.reading.specs.Cursors.{Stands, Steps, moment, tick_of};
 ghost use Rattle.std.specs.Iterator.{at_most};
 
@@ -9,7 +10,8 @@ use super::answer::Moment;
 use super::cursor::Cursor;
 use super::differences::Differences;
 use height::file::View;
-use height::source::{Source, ticks};
+use height::refusal::Refusal;
+use height::source::Source;
 use height::span::Span;
 
 impl<'a> Cursor<'a> {
@@ -46,15 +48,14 @@ impl<'a> Cursor<'a> {
     }
 
     // Stands before a tick of the file from now on. A tick that is not in the file is refused, and the cursor stays.
-    pub fn set(&mut self, tick: u64) -> bool
-        ensures inside { result ≡ nat_lt tick (ticks_of (almanac_of self.old.view)) }
-        ensures stands { Stands self.old (if result then tick else tick_of self.old) self.new }
+    pub fn set(&mut self, tick: u64) -> Result<(), Refusal>
+        ensures { elim result [ Ok _ ↦ (tick < ticks_of (almanac_of self.old.view)) × Stands self.old tick self.new | Err e ↦ (tick < ticks_of (almanac_of self.old.view) → ⊥) × (e ≡ Tick (pos tick)) × Stands self.old (tick_of self.old) self.new ] }
     {
-        let inside = tick < ticks(&self.view);
-        if inside {
-            *self = Cursor::before(self.view, tick / Span::TICKS, tick % Span::TICKS);
+        if tick >= self.view.ticks() {
+            return Err(Refusal::Tick(tick as i128));
         }
-        inside
+        *self = Cursor::before(self.view, tick / Span::TICKS, tick % Span::TICKS);
+        Ok(())
     }
 
     // Gives the tick before which it stands, and goes one tick on.

@@ -2,9 +2,8 @@
 use super::three::THREE;
 use height::file::View;
 use height::meter::Meter;
-use height::source::{Source, height, ticks};
+use height::source::Source;
 use height::span::Span;
-use height::view::check as check_file;
 use reading::answer::Moment;
 use reading::cursor::Cursor;
 use reading::heights::all_heights;
@@ -46,9 +45,9 @@ fn longest(heap: Global) -> Result<Vec<i32>, AllocError> {
 
 // What was given is the tick that comes next, with the height that is worked out for it.
 fn check_moment(rt: &impl Abort, view: View, moment: Moment, tick: u64) {
-    assert!(rt; moment.tick == tick && tick < ticks(&view));
+    assert!(rt; moment.tick == tick && tick < view.ticks());
     let mut meter = Meter::new();
-    assert_eq!(rt; moment.height, height(&view, tick, &mut meter));
+    assert_eq!(rt; moment.height, view.height(tick, &mut meter));
     assert_eq!(rt; moment.first, tick % Span::TICKS == 0);
 }
 
@@ -59,7 +58,7 @@ fn check_ticks(rt: &impl Abort, view: View) {
         check_moment(rt, view, moment, tick);
         tick = tick.wrapping_add(1);
     }
-    assert_eq!(rt; tick, ticks(&view));
+    assert_eq!(rt; tick, view.ticks());
 }
 
 // Goes through a file span by span.
@@ -71,12 +70,11 @@ fn check_spans(rt: &impl Abort, view: View) {
             tick = tick.wrapping_add(1);
         }
     }
-    assert_eq!(rt; tick, ticks(&view));
+    assert_eq!(rt; tick, view.ticks());
 }
 
 fn check_through(rt: &impl Abort, numbers: &[i32]) -> Result<(), Fail> {
-    check_file(numbers)?;
-    let view = View::new(numbers);
+    let view = View::try_from(numbers)?;
     check_ticks(rt, view);
     check_spans(rt, view);
     Ok(())
@@ -105,11 +103,10 @@ static SETS: [(u64, bool, Option<u64>); 9] = [
 
 #[test]
 fn cursors_are_set(rt: HostRuntime) -> Result<(), Fail> {
-    check_file(&THREE)?;
-    let view = View::new(&THREE);
+    let view = View::try_from(&THREE[..])?;
     let mut cursor = Cursor::new(view);
     for (tick, taken, given) in SETS.iter() {
-        assert_eq!(rt; cursor.set(*tick), *taken);
+        assert_eq!(rt; cursor.set(*tick).is_ok(), *taken);
         assert_eq!(rt; cursor.tick(), given.unwrap_or(3072));
         match cursor.next() {
             Some(moment) => check_moment(&rt, view, moment, given.unwrap_or(3072)),
@@ -121,8 +118,7 @@ fn cursors_are_set(rt: HostRuntime) -> Result<(), Fail> {
 
 #[test]
 fn all_heights_are_there(rt: HostRuntime) -> Result<(), Fail> {
-    check_file(&THREE)?;
-    let view = View::new(&THREE);
+    let view = View::try_from(&THREE[..])?;
     let heights = all_heights(rt.alloc(), view)?;
     assert_eq!(rt; heights.len(), 3072);
     for moment in Cursor::new(view) {

@@ -3,8 +3,7 @@ use super::three::THREE;
 use height::file::View;
 use height::meter::Meter;
 use height::round::rounded;
-use height::source::{height, ticks};
-use height::view::check as check_file;
+use height::source::Source;
 use reading::near::near;
 use std::num::f64_to_bits_with_nan;
 use std::process::Abort;
@@ -181,7 +180,7 @@ static ROWS: [(u64, i64, u64, u64); 6] = [
 
 // The height in a tick has these bits, and its error those.
 fn check_near(rt: &impl Abort, view: View, tick: u64, height: u64, error: u64) {
-    assert!(rt; tick < ticks(&view));
+    assert!(rt; tick < view.ticks());
     let near = near(&view, tick);
     assert_eq!(rt; f64_to_bits_with_nan(near.height), height);
     assert_eq!(rt; f64_to_bits_with_nan(near.error), error);
@@ -190,23 +189,21 @@ fn check_near(rt: &impl Abort, view: View, tick: u64, height: u64, error: u64) {
 #[test]
 fn heights_are_nearest(rt: HostRuntime) -> Result<(), Fail> {
     for (span, tick, height, error) in CASES.iter() {
-        check_file(span)?;
-        check_near(&rt, View::new(span), *tick, *height, *error);
+        check_near(&rt, View::try_from(&span[..])?, *tick, *height, *error);
     }
     Ok(())
 }
 
 // The height in a tick is so many whole thousandths.
 fn check_rounded(rt: &impl Abort, view: View, tick: u64, thousandths: i64) {
-    assert!(rt; tick < ticks(&view));
+    assert!(rt; tick < view.ticks());
     let mut meter = Meter::new();
-    assert_eq!(rt; rounded(height(&view, tick, &mut meter)), thousandths);
+    assert_eq!(rt; rounded(view.height(tick, &mut meter)), thousandths);
 }
 
 #[test]
 fn three_spans_have_these_heights(rt: HostRuntime) -> Result<(), Fail> {
-    check_file(&THREE)?;
-    let view = View::new(&THREE);
+    let view = View::try_from(&THREE[..])?;
     for (tick, thousandths, height, error) in ROWS.iter() {
         check_rounded(&rt, view, *tick, *thousandths);
         check_near(&rt, view, *tick, *height, *error);

@@ -1,7 +1,6 @@
 // Parts of the three spans at all borders.
 use super::three::THREE;
 use height::file::View;
-use height::view::check as check_file;
 use reading::part::part;
 use std::test::Fail;
 
@@ -34,8 +33,7 @@ static CASES: [(u64, u64, &[i32]); 14] = [
 
 #[test]
 fn parts_hold_their_spans(rt: HostRuntime) -> Result<(), Fail> {
-    check_file(&THREE)?;
-    let view = View::new(&THREE);
+    let view = View::try_from(&THREE[..])?;
     for (first, end, numbers) in CASES.iter() {
         assert!(rt; part(view, *first, *end) == *numbers);
     }

@@ -1,7 +1,7 @@
 // A body seen over a line, by the bits of how far it is above, or hidden.
 use height::file::View;
-use height::source::ticks;
-use height::view::check as check_file;
+use height::line::Line;
+use height::source::Source;
 use reading::answer::Sighting;
 use reading::sighting::sighting;
 use std::num::f64_to_bits_with_nan;
@@ -70,11 +70,10 @@ fn bits(sighting: Sighting) -> Option<u64> {
 #[test]
 fn bodies_are_seen_or_hidden(rt: HostRuntime) -> Result<(), Fail> {
     for (span, line, tick, above) in CASES.iter() {
-        check_file(span)?;
-        let view = View::new(span);
-        assert!(rt; *tick < ticks(&view));
-        assert!(rt; *line >= -16_777_216 && *line <= 16_777_216);
-        assert_eq!(rt; bits(sighting(&view, *line, *tick)), *above);
+        let view = View::try_from(&span[..])?;
+        let line = Line::try_from(*line)?;
+        assert!(rt; *tick < view.ticks());
+        assert_eq!(rt; bits(sighting(&view, line, *tick)), *above);
     }
     Ok(())
 }

@@ -8,13 +8,13 @@ use Rattle.std.proofs.lemmas.Bool.{cond-false}
 use Rattle.height.specs.declared.refusal.Refusal.{Refusal}
 use Rattle.height.specs.declared.refusal.Refusal.TheVariants.{File, Line, Tick, Asked, Text}
 use Rattle.height.specs.Refusals.{refusal_number, refusal_place}
+use Rattle.height.specs.Texts.{reason_text}
 use Rattle.replies.specs.Said.{Answered, as_crossing, as_number, as_refusal, as_span, numbers, one_word, place_of, refused, refusal_line, said_bytes, said_of}
 use Rattle.replies.specs.Promise.{AllShort, AnswersBack}
 use Rattle.replies.specs.declared.answer.Said.{Said}
 use Rattle.replies.specs.declared.answer.Said.TheVariants.{Nothing, Number, Rise, Set, Span, Hidden, Refused}
 use Rattle.replies.proofs.AnswersTold.{nothing}
 use Rattle.replies.proofs.Lines.{behind_colon}
-use Rattle.text.specs.Answers.{reason_bytes}
 use Rattle.words.specs.Numbers.{figures_of, number_of}
 use Rattle.words.specs.Words.{blank, before_first, pieces, filled, words}
 use Rattle.words.proofs.Backs.{read_back}
@@ -105,7 +105,7 @@ worded b bs h = go (pieces bs) refl
     go [] e = (b ∷ [], [], ap filled (cond-false _ _ _ h ∙ ap (before_first b) e))
     go (w ∷ ws) e = (b ∷ w, filled ws, ap filled (cond-false _ _ _ h ∙ ap (before_first b) e))
 
-reasoned : (e : Refusal) → Worded (reason_bytes e)
+reasoned : (e : Refusal) → Worded (reason_text e)
 reasoned (File p) = worded 116 _ refl
 reasoned Line = worded 116 _ refl
 reasoned (Tick t) = worded 116 _ refl
@@ -122,7 +122,7 @@ numbered (Text l) = lit< tt
 refusal_back : (e : Refusal) → nat_abs (refusal_place e) < 10 ^ 18 → said_of (words (refusal_line e)) ≡ Some (refused e)
 refusal_back e h =
     let r = reasoned e in
-    refused_back (pos (refusal_number e)) (refusal_place e) (reason_bytes e) r.0 r.1 (numbered e) h r.2
+    refused_back (pos (refusal_number e)) (refusal_place e) (reason_text e) r.0 r.1 (numbered e) h r.2
 
 pub answers_back : AnswersBack
 answers_back = (answer_back, refusal_back)

@@ -4,9 +4,10 @@ use Rattle.std.specs.Fmt.{signed_decimal}
 use Rattle.std.proofs.lemmas.Bool.{cond-false}
 use Rattle.height.specs.declared.refusal.Refusal.{Refusal}
 use Rattle.height.specs.Refusals.{refusal_number, refusal_place}
-use Rattle.replies.specs.Said.{crossed, refusal_line, refused, said_bytes}
+use Rattle.height.specs.Texts.{reason_text}
+use Rattle.replies.specs.Said.{crossed, refusal_line, said_bytes}
 use Rattle.replies.specs.Promise.{LinesSaid}
-use Rattle.text.specs.Answers.{crossing_bytes, reason_bytes, refusal_bytes, span_bytes}
+use Rattle.text.specs.Answers.{crossing_bytes, refusal_bytes, span_bytes}
 
 abbrev nl : List ℕ
 nl = codes "\n"
@@ -27,9 +28,7 @@ behind_colon n p r =
     ap (λ (l : List ℕ). codes "refused " ++ l) (append_assoc n (codes " at " ++ (p ++ codes ":")) r ∙ ap (λ (l : List ℕ). n ++ (codes " at " ++ l)) (append_assoc p (codes ":") r))
 
 refused_line : (e : Refusal) → refusal_bytes e ≡ refusal_line e ++ nl
-refused_line e = sym
-    (append_assoc (said_bytes (refused e)) (codes " " ++ reason_bytes e) nl
-    ∙ behind_colon (decimal (refusal_number e)) (signed_decimal (refusal_place e)) (codes " " ++ (reason_bytes e ++ nl)))
+refused_line e = ap (λ (l : List ℕ). l ++ nl) (sym (behind_colon (decimal (refusal_number e)) (signed_decimal (refusal_place e)) (codes " " ++ reason_text e)))
 
 pub lines_said : LinesSaid
 lines_said = record {

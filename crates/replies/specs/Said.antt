@@ -5,9 +5,9 @@ use Rattle.std.specs.Str.{bytes_eq}
 use Rattle.crossing.specs.declared.event.Crossing.{Crossing}
 use Rattle.height.specs.declared.refusal.Refusal.{Refusal}
 use Rattle.height.specs.Refusals.{refusal_number, refusal_place}
+use Rattle.height.specs.Texts.{reason_text}
 use Rattle.replies.specs.declared.answer.Said.{Said}
 use Rattle.replies.specs.declared.answer.Said.TheVariants.{Nothing, Number, Rise, Set, Span, Hidden, Refused}
-use Rattle.text.specs.Answers.{reason_bytes}
 use Rattle.text.specs.Orders.{Are}
 use Rattle.words.specs.Numbers.{number_of}
 
@@ -50,27 +50,14 @@ place_of w = cond (bytes_eq (drop (length w - 1) w) (codes ":")) (number_of (tak
 abbrev pub refusal_of : (w v x y : List ℕ) → Option Said
 refusal_of w v x y = cond (bytes_eq w (codes "refused") && bytes_eq x (codes "at")) (as_refusal (number_of v) (place_of y)) None
 
--- what follows the first words of a line: no more words, or more
-abbrev pub after_four : (w v x y : List ℕ) → List (List ℕ) → Option Said
-after_four w v x y [] = span_of w v x y
-after_four w v x y (u ∷ ws) = refusal_of w v x y
-
-abbrev pub after_three : (w v x : List ℕ) → List (List ℕ) → Option Said
-after_three w v x [] = None
-after_three w v x (y ∷ ws) = after_four w v x y ws
-
-abbrev pub after_two : (w v : List ℕ) → List (List ℕ) → Option Said
-after_two w v [] = two_words w v
-after_two w v (x ∷ ws) = after_three w v x ws
-
-abbrev pub after_one : List ℕ → List (List ℕ) → Option Said
-after_one w [] = one_word w
-after_one w (v ∷ ws) = after_two w v ws
-
 -- what the words of a line say; none where they are no answer
 abbrev pub said_of : List (List ℕ) → Option Said
 said_of [] = None
-said_of (w ∷ ws) = after_one w ws
+said_of (w ∷ []) = one_word w
+said_of (w ∷ v ∷ []) = two_words w v
+said_of (w ∷ v ∷ x ∷ []) = None
+said_of (w ∷ v ∷ x ∷ y ∷ []) = span_of w v x y
+said_of (w ∷ v ∷ x ∷ y ∷ u ∷ ws) = refusal_of w v x y
 
 -- how what is said is written, without the line break; a reason follows a refusal
 abbrev pub said_bytes : Said → List ℕ
@@ -87,7 +74,7 @@ abbrev pub refused : Refusal → Said
 refused e = Refused (pos (refusal_number e)) (refusal_place e)
 
 abbrev pub refusal_line : Refusal → List ℕ
-refusal_line e = said_bytes (refused e) ++ (codes " " ++ reason_bytes e)
+refusal_line e = said_bytes (refused e) ++ (codes " " ++ reason_text e)
 
 -- what a rising or a setting says
 abbrev pub crossed : Crossing → Said

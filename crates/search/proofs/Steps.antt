@@ -1,5 +1,5 @@
 -- One step of a walk, and walks one behind the other. Assumes nothing.
-use Rattle.std.proofs.Common.{◌≡◌, ℕ, zero, suc, ◌+◌, ◌-◌, ◌<◌, ◌≤◌, Bool, true, false, not, sym, refl, ap, ◌∙◌, inl, inr, add-zero, add-suc, arith}
+use Rattle.std.proofs.Common.{◌≡◌, ℕ, zero, suc, ◌+◌, ◌-◌, ◌<◌, ◌≤◌, Bool, true, false, not, Option, Some, None, sym, refl, ap, ◌∙◌, inl, inr, add-zero, add-suc, arith}
 use mathlib.Core.Bool.{beq}
 use Rattle.std.proofs.lemmas.Bool.{cases_lt}
 use Rattle.search.specs.Walks.{Course, Seen, First, Walked, after}
@@ -25,7 +25,7 @@ pass_on {t = t} before there u p q = elim (cases_lt u t) [ inl h ↦ before u p 
 pub seen_not : (m : Course) (t till : ℕ) (b w : Bool) → Seen m t b till → beq b w ≡ false → (u : ℕ) → t ≤ u → u < till → m.so u ≡ not w
 seen_not m t till b w s e u p q = s.same u p q ∙ sym s.here ∙ differs b w e
 
-after_is : (onto : ℕ → ℕ) (start j k : ℕ) → j ≡ k → after onto j start ≡ after onto k start
+pub after_is : (onto : ℕ → ℕ) (start j k : ℕ) → j ≡ k → after onto j start ≡ after onto k start
 after_is onto start j k e = ap (λ (n : ℕ). after onto n start) e
 
 -- one step more
@@ -66,6 +66,6 @@ walked_on m v w start a mid j r till k p q =
     }
 
 -- what is first behind ticks that are not as wanted is first from these on
-pub first_wider : (f : ℕ → Bool) (w : Bool) (a v stop r : ℕ) → a ≤ v → ((u : ℕ) → a ≤ u → u < v → f u ≡ not w) → First f w v stop r → First f w a stop r
-first_wider f w a v stop r le before q =
-    record { from = omega (arith, q.from); within = q.within; none = pass_on before q.none; here = q.here }
+pub first_wider : (f : ℕ → Bool) (w : Bool) (a v stop : ℕ) (o : Option ℕ) → a ≤ v → ((u : ℕ) → a ≤ u → u < v → f u ≡ not w) → First f w v stop o → First f w a stop o
+first_wider f w a v stop None le before q = pass_on before q
+first_wider f w a v stop (Some r) le before q = (omega (arith, q.0), q.1, q.2, pass_on before q.3)

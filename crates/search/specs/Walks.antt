@@ -1,5 +1,7 @@
 -- A walk over a row of ticks, from each tick that it evaluates to the next, and what it finds. Assumes nothing: these are definitions.
-use Rattle.std.specs.Prelude.{◌≡◌, ℕ, zero, suc, ◌+◌, ◌-◌, ◌<◌, ◌≤◌, Bool, true, false, not}
+use Rattle.std.specs.Prelude.{◌≡◌, ℕ, zero, suc, ◌+◌, ◌-◌, ◌<◌, ◌≤◌, Bool, true, false, not, List, [], ◌∷◌, Some, None, Option, MatchOption}
+use Rattle.crossing.specs.Events.{crossings}
+use Rattle.crossing.specs.declared.event.Crossing.{Crossing}
 use Rattle.crossing.specs.declared.event.Event.{Event}
 use Rattle.crossing.specs.declared.event.Event.TheVariants.{Above, Rise, Set}
 
@@ -17,12 +19,10 @@ pub record Seen (m : Course) (t : ℕ) (holds : Bool) (till : ℕ) : Type 0 wher
   pub inside : till ≤ m.stop
   pub same : (u : ℕ) → t ≤ u → u < till → m.so u ≡ m.so t
 
--- r is the first tick from `start` on, below `stop`, in which f is w: it is w there and in no tick before. Or r is `stop`, and f is w in none.
-pub record First (f : ℕ → Bool) (w : Bool) (start stop r : ℕ) : Type 0 where
-  pub from : start ≤ r
-  pub within : r ≤ stop
-  pub none : (u : ℕ) → start ≤ u → u < r → f u ≡ not w
-  pub here : r < stop → f r ≡ w
+-- The first tick from `start` on, below `stop`, in which f is w: it is w there and in no tick from `start` before it. Or there is none: it is w in no tick from `start` below `stop`.
+abbrev pub First : (f : ℕ → Bool) (w : Bool) (start stop : ℕ) → Option ℕ → Type 0
+First f w start stop (Some r) = (start ≤ r) × (r < stop) × (f r ≡ w) × ((u : ℕ) → start ≤ u → u < r → f u ≡ not w)
+First f w start stop None = (u : ℕ) → start ≤ u → u < stop → f u ≡ not w
 
 -- the tick to which k steps lead, from t on
 abbrev pub after : (onto : ℕ → ℕ) (k t : ℕ) → ℕ
@@ -56,3 +56,19 @@ wanted_for Set = false
 -- A walk over the whole row, from `start` to its end, evaluates n ticks; none where the row has no tick from `first` on.
 abbrev pub Steps : (m : Course) (start first n : ℕ) → Type 0
 Steps m start first n = (m.stop ≤ first → n ≡ 0) × (first < m.stop → after m.onto n start ≡ m.stop)
+
+-- what is left of the row's risings and settings, from tick t on
+abbrev pub left : (m : Course) (t : ℕ) → List Crossing
+left m t = crossings m.so t (m.stop - t)
+
+-- A walk over the row's ticks from `first` on came to tick t by n evaluations, the first of them in the tick before. None where the row has no tick from `first` on.
+abbrev pub Came : (m : Course) (first t n : ℕ) → Type 0
+Came m first t n = (m.stop ≤ first → (n ≡ 0) × (t ≡ m.stop)) × (first < m.stop → after m.onto n (first - 1) ≡ t)
+
+-- One more rising or setting of a walk that came to tick t by n evaluations, and then to tick u by k. It gives the first one that is left; or none is left, and it came to the row's end.
+pub record Gives (m : Course) (t n : ℕ) (r : Option Crossing) (u k : ℕ) : Type 0 where
+  pub next : MatchOption r ((left m t ≡ []) × (u ≡ m.stop)) (λ c. (left m t ≡ c ∷ left m u) × (t < u))
+  pub steps : after m.onto (k - n) t ≡ u
+  pub counted : n ≤ k
+  pub few : t + k ≤ u + n
+  pub inside : u ≤ m.stop

@@ -1,5 +1,6 @@
 // The first tick in which a condition is as wanted, becomes so, or has an event.
 ghost use Rattle.std.specs.Prelude.{◌≡◌, ◌-◌, ◌*◌, ◌<◌, ◌≤◌, true};
+ghost use Rattle.std.specs.Option.{unwrap_or};
 ghost use Rattle.crossing.specs.Above.{becomes};
 ghost use Rattle.crossing.specs.Events.{happens};
 ghost use Rattle.search.specs.Walks.{First, Walked, start_for, wanted_for};
@@ -8,11 +9,12 @@ use super::signal::Signal;
 use crossing::event::Event;
 use height::meter::Meter;
 
-// Where a search came to: the tick found, or the row's end where there is none.
+// Where a search came to.
 #[derive(Clone, Copy)]
 pub struct Found {
-    pub tick: u64,
-    // the tick at which the walk would go on: up to there it stays as in `tick`
+    // the tick found, if there is one
+    pub tick: Option<u64>,
+    // the tick at which the walk would go on, up to which it stays as in the one found; the row's end if there is none
     pub till: u64,
     // how many ticks were evaluated
     pub evaluations: u64,
@@ -22,10 +24,9 @@ pub struct Found {
 
 // The first tick from one on in which the condition is as wanted.
 pub fn first_where<S: Signal>(signal: &S, from: u64, wanted: bool) -> Found
-    requires ready { S.ready signal.now }
-    requires start { «from» ≤ (S.course signal.now).stop }
+    requires { «from» ≤ (S.course signal.now).stop }
     ensures first { First (S.course signal.now).so wanted «from» (S.course signal.now).stop result.tick }
-    ensures walked { Walked (S.course signal.now) wanted «from» result.tick result.till result.evaluations }
+    ensures walked { Walked (S.course signal.now) wanted «from» (unwrap_or result.tick (S.course signal.now).stop) result.till result.evaluations }
     ensures counted { result.heights ≡ result.evaluations * S.cost signal.now }
     ensures small { (result.heights ≤ 4 * result.evaluations) × ((S.course signal.now).stop ≤ 268435456) }
 {
@@ -33,12 +34,13 @@ pub fn first_where<S: Signal>(signal: &S, from: u64, wanted: bool) -> Found
     let mut meter = Meter::new();
     let mut tick = from;
     let mut evaluations = 0;
+    // The evaluation says where it goes on, so no range gives its ticks.
     while tick < end {
         let seen = signal.evaluate(tick, &mut meter);
         evaluations += 1;
         if seen.holds == wanted {
             return Found {
-                tick,
+                tick: Some(tick),
                 till: seen.till,
                 evaluations,
                 heights: meter.heights(),
@@ -47,8 +49,8 @@ pub fn first_where<S: Signal>(signal: &S, from: u64, wanted: bool) -> Found
         tick = seen.till;
     }
     Found {
-        tick: end,
-        till: end,
+        tick: None,
+        till: tick,
         evaluations,
         heights: meter.heights(),
     }
@@ -57,10 +59,9 @@ pub fn first_where<S: Signal>(signal: &S, from: u64, wanted: bool) -> Found
 // The first tick from one on in which the condition becomes as wanted: the first one in which it is, behind the first in which it is not.
 // The second search goes on where the first one stopped, so the two are one walk.
 pub fn first_turn<S: Signal>(signal: &S, from: u64, wanted: bool) -> Found
-    requires ready { S.ready signal.now }
-    requires start { «from» < (S.course signal.now).stop }
+    requires { «from» < (S.course signal.now).stop }
     ensures first { First (becomes wanted (S.course signal.now).so) true «from» (S.course signal.now).stop result.tick }
-    ensures walked { Walked (S.course signal.now) wanted («from» - 1) result.tick result.till result.evaluations }
+    ensures walked { Walked (S.course signal.now) wanted («from» - 1) (unwrap_or result.tick (S.course signal.now).stop) result.till result.evaluations }
     ensures counted { result.heights ≡ result.evaluations * S.cost signal.now }
 {
     let other = first_where(signal, from.saturating_sub(1), !wanted);
@@ -75,10 +76,9 @@ pub fn first_turn<S: Signal>(signal: &S, from: u64, wanted: bool) -> Found
 
 // The first tick from one on in which an event happens.
 pub fn first_event<S: Signal>(signal: &S, event: Event, from: u64) -> Found
-    requires ready { S.ready signal.now }
-    requires start { «from» < (S.course signal.now).stop }
+    requires { «from» < (S.course signal.now).stop }
     ensures first { First (happens event (S.course signal.now).so) true «from» (S.course signal.now).stop result.tick }
-    ensures walked { Walked (S.course signal.now) (wanted_for event) (start_for event «from») result.tick result.till result.evaluations }
+    ensures walked { Walked (S.course signal.now) (wanted_for event) (start_for event «from») (unwrap_or result.tick (S.course signal.now).stop) result.till result.evaluations }
     ensures counted { result.heights ≡ result.evaluations * S.cost signal.now }
 {
     match event {

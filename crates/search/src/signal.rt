@@ -19,20 +19,15 @@ pub trait Signal {
     // how many heights are worked out to evaluate a tick
     ghost cost: { Self → ℕ };
 
-    // what the two functions ask of a value; the types that implement this say when it holds
-    ghost ready: { Self → Type 0 };
-
     // How many ticks the row has.
     fn end(&self) -> u64
-        requires { ready self.now }
         ensures value { result ≡ (course self.now).stop }
         ensures few { result ≤ 268435456 }
         ensures cheap { cost self.now ≤ 4 };
 
     // One tick is evaluated, and the heights worked out for it are counted.
     fn evaluate(&self, tick: u64, meter: &mut Meter) -> Evaluation
-        requires ready { ready self.now }
-        requires inside { tick < (course self.now).stop }
+        requires { tick < (course self.now).stop }
         ensures seen { Seen (course self.now) tick result.holds result.till }
         ensures counted { meter.new.heights ≡ counted meter.old.heights (cost self.now) };
 }

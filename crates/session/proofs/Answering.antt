@@ -21,12 +21,12 @@ looked f t (suc k) stop (Some r) e h =
     ]
 
 -- the first tick, as it is written
-pub first_said : (m : Almanac) (z : ℤ) (f : ℕ → Bool) (t : ℕ) (o : Option ℕ) (was is : List ℕ) → Some t ≡ tick_in m z → t < ticks m → SaysFirst f t (ticks m) o → is ≡ was ++ tick_bytes o → (is ≡ was ++ (at_tick m z (λ u. tick_bytes (first_tick f u (ticks m - u)))).text) × (false ≡ (at_tick m z (λ u. tick_bytes (first_tick f u (ticks m - u)))).refuses)
+pub first_said : (m : Almanac) (z : ℤ) (f : ℕ → Bool) (t : ℕ) (o : Option ℕ) (was is : List ℕ) → Some t ≡ tick_in m z → t < ticks m → SaysFirst f t (ticks m) o → is ≡ was ++ tick_bytes o → ((at_tick m z (λ u. tick_bytes (first_tick f u (ticks m - u)))).refuses ≡ false) × (is ≡ was ++ (at_tick m z (λ u. tick_bytes (first_tick f u (ticks m - u)))).text)
 first_said m z f t o was is there inside says written = (
+  ap (λ (x : Option ℕ). (for_tick z (λ u. tick_bytes (first_tick f u (ticks m - u))) x).refuses) (sym there),
   written
       ∙ ap (λ (x : Option ℕ). was ++ tick_bytes x) (looked f t (ticks m - t) (ticks m) o (omega arith) says)
       ∙ ap (λ (x : Option ℕ). was ++ (for_tick z (λ u. tick_bytes (first_tick f u (ticks m - u))) x).text) there,
-  ap (λ (x : Option ℕ). (for_tick z (λ u. tick_bytes (first_tick f u (ticks m - u))) x).refuses) there,
 )
 
 empty : (ys : List ℤ) → length ys ≡ 0 → ys ≡ []

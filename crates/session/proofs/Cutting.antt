@@ -1,58 +1,44 @@
 -- A text cut into its lines. Assumes nothing.
-use Rattle.std.proofs.Common.{◌≡◌, ℕ, zero, suc, ◌+◌, ◌<◌, ◌≤◌, Bool, true, false, cond, eqb, List, [], ◌∷◌, ◌++◌, length, get_or, take, drop, sym, refl, ap, ◌∙◌, append_assoc, append-nil, add-one, arith, drop-cons}
-use Rattle.std.proofs.lemmas.Bool.{cond-true, cond-false, eq-eqb, ne_eqb}
+use Rattle.std.proofs.Common.{◌≡◌, ℕ, zero, suc, ◌+◌, ◌<◌, ◌≤◌, min, true, false, ◌==◌, List, [], ◌∷◌, ◌++◌, length, sym, refl, ap, ◌∙◌, append_assoc, append-nil, arith}
+use Rattle.std.proofs.lemmas.Bool.{cond-true, cond-false}
+use Rattle.std.specs.List.{IsFirstMatchOrLen}
 use Rattle.words.specs.Words.{before_first}
-use Rattle.session.specs.Lines.{line_len, lines}
+use Rattle.session.specs.Lines.{lines}
 use Rattle.session.specs.Sessions.{State, run, run_lines, start, step}
 
--- ---- how long the first line is
-at_break : (b : ℕ) (bs : List ℕ) → b ≡ 10 → line_len (b ∷ bs) ≡ 1
-unfolding line_len
-at_break b bs h = cond-true _ _ _ (eq-eqb b 10 h)
+-- ---- the first line, and what follows it
+at_break : (b : ℕ) (bs : List ℕ) → (b == 10) ≡ true → lines (b ∷ bs) ≡ (b ∷ []) ∷ lines bs
+unfolding lines
+at_break b bs h = cond-true _ _ _ h
 
-no_break : (b : ℕ) (bs : List ℕ) → (b ≡ 10 → ⊥) → line_len (b ∷ bs) ≡ suc (line_len bs)
-unfolding line_len
-no_break b bs h = cond-false _ _ _ (ne_eqb b 10 h)
+no_break : (b : ℕ) (bs : List ℕ) → (b == 10) ≡ false → lines (b ∷ bs) ≡ before_first b (lines bs)
+unfolding lines
+no_break b bs h = cond-false _ _ _ h
 
-rest_of : (xs : List ℕ) (i : ℕ) → i < length xs → drop i xs ≡ get_or xs i 0 ∷ drop (i + 1) xs
-rest_of xs i h = drop-cons xs i 0 h ∙ ap (λ (k : ℕ). get_or xs i 0 ∷ drop k xs) (sym (add-one i))
+no_line : lines [] ≡ []
+unfolding lines
+no_line = refl
 
-past : (xs : List ℕ) (i : ℕ) → length xs ≤ i → drop i xs ≡ []
-past [] zero h = refl
-past [] (suc i) h = refl
-past (x ∷ xs) zero h = absurd (omega arith)
-past (x ∷ xs) (suc i) h = past xs i (omega arith)
-
-pub len_found : (xs : List ℕ) (i : ℕ) → i < length xs → get_or xs i 0 ≡ 10 → line_len xs ≡ i + line_len (drop i xs) → i + 1 ≡ line_len xs
-len_found xs i h e so_far = omega (arith, so_far, ap line_len (rest_of xs i h) ∙ at_break (get_or xs i 0) (drop (i + 1) xs) e)
-
-pub len_more : (xs : List ℕ) (i : ℕ) → i < length xs → (get_or xs i 0 ≡ 10 → ⊥) → line_len xs ≡ i + line_len (drop i xs) → line_len xs ≡ (i + 1) + line_len (drop (i + 1) xs)
-len_more xs i h e so_far = omega (arith, so_far, ap line_len (rest_of xs i h) ∙ no_break (get_or xs i 0) (drop (i + 1) xs) e)
-
-no_len : line_len [] ≡ 0
-unfolding line_len
-no_len = refl
-
-pub len_all : (xs : List ℕ) (i : ℕ) → length xs ≤ i → i ≤ length xs → line_len xs ≡ i + line_len (drop i xs) → length xs ≡ line_len xs
-len_all xs i h le so_far = omega (arith, so_far, ap line_len (past xs i h) ∙ no_len)
-
--- ---- the first line, and those of the rest
-abbrev FirstLine : List ℕ → Type 0
-FirstLine xs = (lines xs ≡ take (line_len xs) xs ∷ lines (drop (line_len xs) xs)) × (0 < line_len xs) × (line_len xs ≤ length xs)
-
--- by the first byte: a break ends the line, any other byte goes in front of the rest's first line
-in_front : (b : ℕ) (bs : List ℕ) → FirstLine bs → (t : Bool) → (cond t ((b ∷ []) ∷ lines bs) (before_first b (lines bs)) ≡ take (cond t 1 (suc (line_len bs))) (b ∷ bs) ∷ lines (drop (cond t 1 (suc (line_len bs))) (b ∷ bs))) × (0 < cond t 1 (suc (line_len bs))) × (cond t 1 (suc (line_len bs)) ≤ suc (length bs))
-in_front b bs p true = (refl, omega arith, omega arith)
-in_front b bs p false = (ap (before_first b) p.0, omega arith, omega (arith, p.2))
-
-pub first_line : (b : ℕ) (bs : List ℕ) → FirstLine (b ∷ bs)
-unfolding lines line_len
-first_line b [] = alone (eqb b 10)
-  where
-    alone : (t : Bool) → (cond t ((b ∷ []) ∷ []) ((b ∷ []) ∷ []) ≡ take (cond t 1 1) (b ∷ []) ∷ lines (drop (cond t 1 1) (b ∷ []))) × (0 < cond t 1 1) × (cond t 1 1 ≤ 1)
-    alone true = (refl, omega arith, omega arith)
-    alone false = (refl, omega arith, omega arith)
-first_line b (c ∷ cs) = in_front b (c ∷ cs) (first_line c cs) (eqb b 10)
+-- a text that is cut behind its first break, or at its end
+pub first_cut : (text line after : List ℕ) (i : ℕ) → text ≡ line ++ after → length line ≡ min (i + 1) (length text) → IsFirstMatchOrLen (λ b. b == 10) text i → 0 < length text → lines text ≡ line ∷ lines after
+first_cut [] line after i e n f h = absurd (omega arith)
+first_cut (b ∷ bs) [] after i e n f h = absurd (omega (arith, n))
+first_cut (b ∷ bs) (c ∷ []) after zero e n f h =
+    let p : b ≡ c = cc in
+    let q : bs ≡ after = cc in
+    at_break b bs (f.1 h 0) ∙ (λ i. (p i ∷ []) ∷ lines (q i))
+first_cut (b ∷ bs) (c ∷ d ∷ cs) after zero e n f h = absurd (omega (arith, n))
+first_cut (b ∷ []) (c ∷ []) after (suc i) e n f h =
+    let p : b ≡ c = cc in
+    let q : [] ≡ after = cc in
+    no_break b [] (f.0 0 0 (omega arith) (omega arith)) ∙ ap (before_first b) no_line ∙ (λ i. (p i ∷ []) ∷ sym no_line i) ∙ (λ i. (c ∷ []) ∷ lines (q i))
+first_cut (b ∷ []) (c ∷ d ∷ cs) after (suc i) e n f h = absurd (omega (arith, n))
+first_cut (b ∷ a ∷ bs) (c ∷ cs) after (suc i) e n f h =
+    let p : b ≡ c = cc in
+    let q : a ∷ bs ≡ cs ++ after = cc in
+    no_break b (a ∷ bs) (f.0 0 0 (omega arith) (omega arith))
+    ∙ ap (before_first b) (first_cut (a ∷ bs) cs after i q (omega (arith, n)) ((λ k d l u. f.0 (suc k) d (omega arith) (omega arith)), (λ u d. f.1 (omega arith) d)) (omega arith))
+    ∙ (λ i. (p i ∷ cs) ∷ lines after)
 
 -- ---- the run, line by line
 pub record Running (text : List ℕ) (s : State) (written rest : List ℕ) : Type 0 where
@@ -92,7 +78,3 @@ running_ends text s written rest r h = (
   sym (append-nil written) ∙ ap (λ (x : List ℕ). written ++ x) (sym (nothing_more s rest h).1) ∙ r.so_far,
   sym (nothing_more s rest h).0 ∙ r.state,
 )
-
-pub line_len_le : (xs : List ℕ) → line_len xs ≤ length xs
-line_len_le [] = omega (arith, no_len)
-line_len_le (b ∷ bs) = (first_line b bs).2

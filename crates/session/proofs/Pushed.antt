@@ -1,5 +1,5 @@
 -- A line's numbers, pushed one after the other. Assumes nothing.
-use Rattle.std.proofs.Common.{◌≡◌, ℕ, ◌≤◌, List, [], ◌∷◌, ◌++◌, length, take, ℤ, Some, None, Option, sym, refl, ap, ◌∙◌, append_assoc, append-nil, arith, length-take, take_all}
+use Rattle.std.proofs.Common.{◌≡◌, ℕ, ◌≤◌, List, [], ◌∷◌, ◌++◌, length, take, ℤ, Some, None, Option, sym, refl, ap, ◌∙◌, append_assoc, append-nil, arith, length-take}
 use lib.Seq.{take-append-le}
 use Rattle.std.specs.Option.{option_map}
 use Rattle.words.specs.Numbers.{number_of}
@@ -10,9 +10,6 @@ pub record Pushed (was : List ℤ) (all : List (List ℕ)) (is : List ℤ) (left
   pub same : option_map (λ zs. was ++ zs) (numbers_of all) ≡ option_map (λ zs. is ++ zs) (numbers_of left)
   pub count : had ≡ length was
   pub front : take had is ≡ was
-
-pub pushed_start : (was : List ℤ) (all : List (List ℕ)) (had : ℕ) → had ≡ length was → Pushed was all was all had
-pushed_start was all had h = record { same = refl; count = h; front = take_all had was (omega arith) }
 
 none_left : numbers_of [] ≡ Some []
 unfolding numbers_of

@@ -1,16 +1,11 @@
 -- The lines of a text. Assumes nothing: these are definitions.
-use Rattle.std.specs.Prelude.{ℕ, suc, ◌-◌, Bool, cond, List, [], ◌∷◌, length, take, ◌==◌, slice_index}
+use Rattle.std.specs.Prelude.{ℕ, ◌-◌, Bool, cond, List, [], ◌∷◌, length, take, ◌==◌, slice_index}
 use Rattle.words.specs.Words.{before_first}
 
 -- A text cut behind each line break; the last line may lack one.
 unfoldable pub lines : List ℕ → List (List ℕ)
 lines [] = []
 lines (b ∷ bs) = cond (b == 10) ((b ∷ []) ∷ lines bs) (before_first b (lines bs))
-
--- how many bytes the first line has, with its end
-unfoldable pub line_len : List ℕ → ℕ
-line_len [] = 0
-line_len (b ∷ bs) = cond (b == 10) 1 (suc (line_len bs))
 
 -- whether a text ends with a byte, and what stands before its last byte
 abbrev pub ends_with : ℕ → List ℕ → Bool

@@ -1,5 +1,7 @@
 -- What is answered to an order, as text. Assumes nothing: these are definitions.
 use Rattle.std.specs.Prelude.{◌≡◌, ℕ, zero, suc, ◌+◌, ◌-◌, ◌*◌, ◌/◌, min, Bool, true, false, cond, ◌&&◌, List, [], ◌++◌, length, take, drop, ℤ, pos, negsuc, ◌*ℤ◌, Some, None, Ok, Err, Option, Result, nat_le, nat_lt}
+use Rattle.almanac.specs.declared.ask.Fault.{Fault}
+use Rattle.almanac.specs.declared.ask.Fault.TheVariants.{Refused, Memory}
 use Rattle.crossing.specs.Above.{above}
 use Rattle.crossing.specs.Events.{crossings, happens}
 use Rattle.height.specs.Almanacs.{Almanac, ticks, height_at, rounded}
@@ -69,7 +71,8 @@ answer xs line Tables = says (table_bytes (crossings (above (almanac_in 1024 xs)
 abbrev pub reply : List ℤ → (line : ℤ) → Order → Reply
 reply xs line o = cond (good_file xs) (answer xs line o) (refuses_as (File (first_beyond xs)))
 
--- the reply is at the end of the text, if there was memory for it, and whether it is a refusal is answered
-abbrev pub Replies : {E : Type 0} → (was : List ℕ) → Reply → (is : List ℕ) → Result Bool E → Type 0
-Replies was r is (Ok b) = (is ≡ was ++ r.text) × (b ≡ r.refuses)
-Replies was r is (Err e) = Unit {0}
+-- An order is answered: the reply's text is at the end of what was written. Or it is refused, and nothing is written; or there was no memory for it.
+abbrev pub Replies : (was : List ℕ) → Reply → (is : List ℕ) → Result (Unit {0}) Fault → Type 0
+Replies was r is (Ok u) = (r.refuses ≡ false) × (is ≡ was ++ r.text)
+Replies was r is (Err (Refused e)) = (r ≡ refuses_as e) × (is ≡ was)
+Replies was r is (Err Memory) = Unit {0}

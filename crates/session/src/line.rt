@@ -5,7 +5,7 @@ ghost use Rattle.session.specs.Sessions.{kind_of, kind_of_mark};
 ghost use Rattle.words.specs.Words.{words};
 
 use super::kind::Kind;
-use words::split::first_word;
+use words::split::Words;
 
 // Whether a line ends with a byte.
 fn ends_with(bytes: &[u8], byte: u8) -> bool
@@ -55,10 +55,8 @@ fn kind_of_mark(mark: u8) -> Kind
 pub fn kind(line: &[u8]) -> Kind
     ensures { result ≡ kind_of (words line.now) }
 {
-    let (word, _) = first_word(line);
-    if word.len() > 0 {
-        kind_of_mark(word[0])
-    } else {
-        Kind::Nothing
+    match Words::new(line).next() {
+        Some(word) => kind_of_mark(word[0]),
+        None => Kind::Nothing,
     }
 }

@@ -1,12 +1,13 @@
 // The numbers of a line.
 ghost use Rattle.session.specs.Pushing.{Pushes};
+ghost use Rattle.session.specs.declared.numbers.Unread.TheVariants.{Memory};
 ghost use Rattle.session.specs.Sessions.{kept as kept_of};
 ghost use Rattle.std.specs.Prelude.{◌≡◌};
 ghost use Rattle.words.specs.Words.{words};
 
-use super::memory::NoMemory;
+use std::alloc::AllocFailed;
 use words::number::number;
-use words::split::first_word;
+use words::split::Words;
 
 // A number as the file keeps it: one that is too large is the largest or the least of its type, which is beyond the bound too.
 fn kept(z: i64) -> i32
@@ -15,24 +16,32 @@ fn kept(z: i64) -> i32
     z.clamp(i32::MIN as i64, i32::MAX as i64) as i32
 }
 
+// Why the numbers of a line are not taken: a word is no number, or there is no memory for them.
+#[derive(Clone, Copy, PartialEq, Eq, Debug)]
+pub enum Unread {
+    Word,
+    Memory,
+}
+
+impl<T: Drop> From<AllocFailed<T>> for Unread {
+    ghost from_gives = { λ _ r. r ≡ Memory };
+
+    fn from(_e: AllocFailed<T>) -> Unread {
+        Unread::Memory
+    }
+}
+
 // All numbers of a line behind those that are there; none of them where a word is no number.
-pub fn push_numbers(numbers: &mut Vec<i32>, line: &[u8]) -> Result<bool, NoMemory>
+pub fn push_numbers(numbers: &mut Vec<i32>, line: &[u8]) -> Result<(), Unread>
     ensures { Pushes numbers.old.items (words line.now) numbers.new.items result }
 {
     let had = numbers.len();
-    let mut rest = line;
-    loop {
-        let (word, after) = first_word(rest);
-        if word.len() == 0 {
-            return Ok(true);
-        }
-        match number(word) {
-            Some(z) => numbers.push(kept(z))?,
-            None => {
-                numbers.truncate(had);
-                return Ok(false);
-            }
-        }
-        rest = after;
+    for word in Words::new(line) {
+        let Some(z) = number(word) else {
+            numbers.truncate(had);
+            return Err(Unread::Word);
+        };
+        numbers.push(kept(z))?;
     }
+    Ok(())
 }

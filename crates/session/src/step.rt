@@ -1,25 +1,27 @@
 // What a line of text leads to.
-ghost use Rattle.std.specs.Prelude.{◌≡◌, ℕ, true, ◌||◌, Ok, Err, string_bytes, Decides, ◌≢◌};
-ghost use Rattle.session.specs.Held.{Answers, Makes, SetsLine, phase_of, state_of};
-ghost use Rattle.session.specs.Replies.{Replies, reply as reply_of};
-ghost use Rattle.session.specs.Sessions.{asking, begun, ended, ends, numbers_step, passed, start, step, with_order};
+ghost use Rattle.std.specs.Prelude.{◌≡◌, Ok, Err, string_bytes, Decides, ◌≢◌, vec_items};
+ghost use Rattle.almanac.specs.Doors.{numbers_of};
+ghost use Rattle.height.specs.Files.{Good, first_beyond};
 ghost use Rattle.height.specs.declared.refusal.Refusal.TheVariants.{File};
-ghost use Rattle.session.specs.Stages.{stage_fits};
+ghost use Rattle.session.specs.Held.{Answers, Makes, Refuses, phase_of, state_of};
+ghost use Rattle.session.specs.Sessions.{asking, begun, ended, ends, numbers_step, passed, start, step, with_order};
 ghost use Rattle.text.specs.Orders.{order_of};
 ghost use Rattle.words.specs.Words.{words};
 
 use super::kind::Kind;
 use super::line::{bare, kind};
 use super::memory::NoMemory;
-use super::numbers::push_numbers;
-use super::reply::{answer, refuse};
+use super::numbers::{Unread, push_numbers};
+use super::reply::Desk;
 use super::session::Session;
 use super::stage::Stage;
 use almanac::almanac::Almanac;
-use almanac::check::check_line;
+use almanac::ask::Fault;
+use height::line::Line;
 use height::refusal::Refusal;
 use height::view::check;
 use std::alloc::Global;
+use text::answer::put_refusal;
 use text::order::{Order, read_order};
 
 impl Session {
@@ -29,7 +31,7 @@ impl Session {
     {
         Session {
             numbers: Vec::new(heap),
-            line: 0,
+            line: Line::default(),
             stage: Stage::Reading,
             at: 0,
             refused: false,
@@ -43,14 +45,22 @@ impl Session {
         self.at = self.at.saturating_add(1);
     }
 
+    // A refusal is written, and kept in mind.
+    fn refuse(&mut self, refusal: Refusal, out: &mut String) -> Result<(), NoMemory>
+        ensures { Refuses (state_of self.old) refusal (state_of self.new) (string_bytes out.old) (string_bytes out.new) result }
+    {
+        put_refusal(out, refusal)?;
+        self.refused = true;
+        Ok(())
+    }
+
     // A line that ends the text: it is refused, and nothing more is read.
     fn end(&mut self, out: &mut String) -> Result<(), NoMemory>
         ensures { Makes (ends (state_of self.old)) (state_of self.new) (string_bytes out.old) (string_bytes out.new) result }
     {
-        let refusal = Refusal::Text(self.at);
-        self.pass();
+        self.refuse(Refusal::Text(self.at), out)?;
         self.stage = Stage::Ended;
-        self.refused = refuse(out, refusal)?;
+        self.pass();
         Ok(())
     }
 }
@@ -63,106 +73,57 @@ impl Session {
         if self.stage != Stage::Reading {
             return self.end(out);
         }
-        if !push_numbers(&mut self.numbers, line)? {
-            return self.end(out);
+        match push_numbers(&mut self.numbers, line) {
+            Ok(()) => {
+                self.pass();
+                Ok(())
+            }
+            Err(Unread::Word) => self.end(out),
+            Err(Unread::Memory) => Err(NoMemory),
         }
-        self.pass();
-        Ok(())
-    }
-}
-
-// Whether one of two is so.
-fn either(a: bool, b: bool) -> bool
-    ensures { result ≡ a || b }
-{
-    a || b
-}
-
-// The place of a refused file.
-fn file_place(refusal: Refusal) -> u64
-    ensures { (p : ℕ) → refusal ≡ File p → result ≡ p }
-{
-    match refusal {
-        Refusal::File(place) => place,
-        _ => 0,
-    }
-}
-
-// The stage of questions over a file: it is checked here, once.
-fn asking_stage(numbers: &[i32]) -> Stage
-    ensures sound { stage_fits result numbers.now ≡ true }
-    ensures phase { phase_of result ≡ asking }
-{
-    match check(numbers) {
-        Ok(()) => Stage::Asking,
-        Err(refusal) => Stage::Refusing(file_place(refusal)),
     }
 }
 
 impl Session {
-    // The first question ends the numbers.
+    // The first question ends the numbers. The file is checked here, once.
     fn begin(&mut self)
         ensures { state_of self.new ≡ begun (state_of self.old) }
     {
         if self.stage == Stage::Reading {
-            self.stage = asking_stage(self.numbers.as_slice());
+            self.stage = Stage::Asking(check(self.numbers.as_slice()));
         }
     }
-}
 
-impl Session {
-    // The answer to an order, with the line in force; whether it is a refusal.
-    fn reply(&self, heap: Global, order: Order, out: &mut String) -> Result<bool, NoMemory>
+    // The almanac over the file, or why the file is refused.
+    fn almanac(&self) -> Result<Almanac<'_>, Refusal>
         requires { phase_of self.now.stage ≡ asking }
-        ensures { Replies (string_bytes out.old) (reply_of self.now.numbers.items self.now.line order) (string_bytes out.new) result }
+        ensures { elim result [ Ok a ↦ Good (vec_items self.now.numbers) × (numbers_of a ≡ vec_items self.now.numbers) | Err e ↦ (Good (vec_items self.now.numbers) → ⊥) × (e ≡ File (first_beyond (vec_items self.now.numbers))) ] }
     {
         match self.stage {
-            Stage::Asking => {
-                let almanac = Almanac::new(self.numbers.as_slice());
-                answer(heap, &almanac, self.line, order, out)
+            Stage::Asking(checked) => {
+                checked?;
+                Ok(Almanac::new(self.numbers.as_slice()))
             }
-            Stage::Refusing(place) => refuse(out, Refusal::File(place)),
-            _ => Ok(false),
+            _ => unreachable!(),
         }
     }
 
-    // A new line, if it is within 2^24; whether it is refused. A refused one changes nothing.
-    fn set_line(&mut self, line: i64, out: &mut String) -> Result<bool, NoMemory>
-        ensures { elim result [ Ok b ↦ SetsLine (state_of self.old) line (state_of self.new) (string_bytes out.old) (string_bytes out.new) b | Err e ↦ Unit {0} ] }
-    {
-        match check_line(line) {
-            Ok(()) => {
-                self.line = line;
-                Ok(false)
-            }
-            Err(refusal) => {
-                let refused = refuse(out, refusal)?;
-                Ok(refused)
-            }
-        }
-    }
-}
-
-impl Session {
-    // A question: what is written for it, and whether it is refused.
-    fn answer(&mut self, heap: Global, line: &[u8], out: &mut String) -> Result<bool, NoMemory>
+    // What a question asks for is answered, or refused with nothing changed. A line that is taken is in force from now on.
+    fn answer(&mut self, heap: Global, line: &[u8], out: &mut String) -> Result<(), Fault>
         requires { phase_of self.old.stage ≡ asking }
-        ensures { elim result [ Ok b ↦ Answers (state_of self.old) (order_of (words line.now)) (state_of self.new) (string_bytes out.old) (string_bytes out.new) b | Err e ↦ Unit {0} ] }
+        ensures { Answers (state_of self.old) (order_of (words line.now)) (state_of self.new) (string_bytes out.old) (string_bytes out.new) result }
     {
-        match read_order(line) {
-            None => {
-                let refused = refuse(out, Refusal::Text(self.at))?;
-                Ok(refused)
-            }
-            Some(Order::Line(line)) => {
-                let refused = self.set_line(line, out)?;
-                Ok(refused)
-            }
-            Some(order) => {
-                let refused = self.reply(heap, order, out)?;
-                Ok(refused)
-            }
+        let order = read_order(line).ok_or(Refusal::Text(self.at))?;
+        if let Order::Line(line) = order {
+            self.line = Line::try_from(line)?;
+            return Ok(());
         }
+        let desk = Desk {
+            heap,
+            almanac: self.almanac()?,
+            line: self.line,
+        };
+        desk.answer(order, out)
     }
 
     // A question. The first one ends the numbers.
@@ -171,9 +132,12 @@ impl Session {
         ensures { Makes (with_order (state_of self.old) (order_of (words line.now))) (state_of self.new) (string_bytes out.old) (string_bytes out.new) result }
     {
         self.begin();
-        let refused = self.answer(heap, line, out)?;
+        match self.answer(heap, line, out) {
+            Ok(()) => {}
+            Err(Fault::Refused(refusal)) => self.refuse(refusal, out)?,
+            Err(Fault::Memory) => return Err(NoMemory),
+        }
         self.pass();
-        self.refused = either(self.refused, refused);
         Ok(())
     }
 }

@@ -1,25 +1,18 @@
 -- An event by what is so in a tick and was in the tick before. Assumes nothing.
-use Rattle.std.proofs.Common.{◌≡◌, ℕ, zero, suc, ◌-◌, Bool, true, false, not, ◌&&◌, sym, refl, ap, ◌∙◌, arith}
+use Rattle.std.proofs.Common.{◌≡◌, ℕ, zero, suc, ◌-◌, Bool, not, ◌&&◌, sym, refl, ap, ◌∙◌, arith}
+use Rattle.std.proofs.Math.Bool.{and-not_self, not-and_self}
 use Rattle.crossing.specs.declared.event.Event.{Event}
 use Rattle.crossing.specs.declared.event.Event.TheVariants.{Above, Rise, Set}
 use Rattle.crossing.specs.Above.{rises, sets}
 use Rattle.crossing.specs.Events.{happens}
 use Rattle.sight.specs.Sights.{happens_by}
 
-is_and_not : (b : Bool) → b && not b ≡ false
-is_and_not true = refl
-is_and_not false = refl
-
-not_and_is : (b : Bool) → not b && b ≡ false
-not_and_is true = refl
-not_and_is false = refl
-
 happens_is : (e : Event) (f : ℕ → Bool) (t : ℕ) → happens e f t ≡ happens_by e (f t) (f (t - 1))
 unfolding rises sets
 happens_is Above f t = refl
-happens_is Rise f zero = sym (is_and_not (f 0))
+happens_is Rise f zero = sym (and-not_self (f 0))
 happens_is Rise f (suc t) = let e : t ≡ suc t - 1 = omega arith in ap (λ (n : ℕ). f (suc t) && not (f n)) e
-happens_is Set f zero = sym (not_and_is (f 0))
+happens_is Set f zero = sym (not-and_self (f 0))
 happens_is Set f (suc t) = let e : t ≡ suc t - 1 = omega arith in ap (λ (n : ℕ). not (f (suc t)) && f n) e
 
 -- what the code worked out is what happens

@@ -9,7 +9,7 @@ ghost use Rattle.std.specs.Int.Signed.{le_z};
 
 use crossing::event::Event;
 use height::meter::Meter;
-use height::source::{Source, height, ticks};
+use height::source::Source;
 
 // Whether the height in a tick is over a level.
 fn is_over<S: Source>(source: &S, level: i64, tick: u64) -> bool
@@ -17,7 +17,7 @@ fn is_over<S: Source>(source: &S, level: i64, tick: u64) -> bool
     ensures { result ≡ over (S.almanac source.now) level tick }
 {
     let mut meter = Meter::new();
-    height(source, tick, &mut meter) >= level
+    source.height(tick, &mut meter) >= level
 }
 
 // Whether an event happens in a tick, by what is so there and was in the tick before.
@@ -31,19 +31,18 @@ fn happens_now(event: Event, is: bool, was: bool) -> bool
     }
 }
 
-// The first tick from one on in which an event happens, or the number of ticks where it happens in none.
-pub fn first_of_every<S: Source>(source: &S, level: i64, event: Event, from: u64) -> u64
+// The first tick from one on in which an event happens, if it happens in any.
+pub fn first_of_every<S: Source>(source: &S, level: i64, event: Event, from: u64) -> Option<u64>
     requires { «from» < ticks_of (S.almanac source.now) }
     ensures { First (happens event (over (S.almanac source.now) level)) true «from» (ticks_of (S.almanac source.now)) result }
 {
-    let end = ticks(source);
     let mut was = is_over(source, level, from.saturating_sub(1));
-    for tick in from..end {
+    for tick in from..source.ticks() {
         let is = is_over(source, level, tick);
         if happens_now(event, is, was) {
-            return tick;
+            return Some(tick);
         }
         was = is;
     }
-    end
+    None
 }

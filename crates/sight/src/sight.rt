@@ -4,15 +4,17 @@ ghost use Rattle.height.specs.Almanacs.{ticks as ticks_of};
 ghost use Rattle.sight.specs.Sights.{over_level, skip as skip_of};
 
 use height::meter::Meter;
-use height::source::{Source, ticks};
+use height::source::Source;
 use search::signal::{Evaluation, Signal};
+use std::alloc::AllocError;
 
 // A body, a level, and the tick where the row ends. The level is kept as heights are, times 2^30.
-#[derive(Clone, Copy)]
-pub struct Sight<S> {
+pub struct Sight<S: Source> {
     source: S,
     level: i64,
     end: u64,
+    ghost inside: { «end» ≤ ticks_of (S.almanac source) },
+    ghost few: { «end» ≤ 4194304 },
 }
 
 impl<S: Source> Sight<S> {
@@ -21,9 +23,8 @@ impl<S: Source> Sight<S> {
         ensures source { result.source ≡ source }
         ensures level { result.level ≡ level }
         ensures stop { result.«end» ≡ min «end» (ticks_of (S.Source.almanac source)) }
-        ensures few { result.«end» ≤ 4194304 }
     {
-        let last = ticks(&source);
+        let last = source.ticks();
         Sight {
             source,
             level,
@@ -31,6 +32,19 @@ impl<S: Source> Sight<S> {
         }
     }
 }
+
+impl<S: Source + Clone> Clone for Sight<S> {
+    // The row ends where it did, or with the cloned body's last tick if that comes first.
+    ghost is_clone = { λ s r. S.Clone.is_clone s.source r.source × (r.level ≡ s.level) × (r.«end» ≡ min s.«end» (ticks_of (S.Source.almanac r.source))) };
+
+    ghost is_infallible = { λ s. S.Clone.is_infallible s.source };
+
+    fn clone(&self) -> Result<Sight<S>, AllocError> {
+        Ok(Sight::new(self.source.clone()?, self.level, self.end))
+    }
+}
+
+impl<S: Source + Copy> Copy for Sight<S> {}
 
 // How many ticks may be skipped, of `most`, at this distance from the level with this slope.
 fn skip(distance: u64, slope: u64, most: u64) -> u64
@@ -50,8 +64,6 @@ impl<S: Source> Signal for Sight<S> {
     ghost course = { λ s. over_level (S.Source.almanac s.source) s.level s.«end» };
 
     ghost cost = { λ _. 1 };
-
-    ghost ready = { λ s. (s.«end» ≤ ticks_of (S.Source.almanac s.source)) × (s.«end» ≤ 268435456) };
 
     fn end(&self) -> u64 {
         self.end

@@ -1,11 +1,12 @@
 -- How answers and refusals are written, each with the line break that ends it. Assumes nothing: these are definitions.
 use Rattle.std.specs.Prelude.{◌≡◌, ℕ, cond, List, [], ◌∷◌, ◌++◌, ℤ, pos, Some, None, Ok, Err, codes, decimal, Option, Result, int_le}
 use Rattle.std.specs.Fmt.{signed_decimal}
+use Rattle.std.specs.List.{flat_map}
 use Rattle.crossing.specs.declared.event.Crossing.{Crossing}
+use Rattle.crossing.specs.Texts.{crossing_text}
 use Rattle.decimal.specs.Figures.{error_text, float_text}
 use Rattle.height.specs.declared.refusal.Refusal.{Refusal}
-use Rattle.height.specs.declared.refusal.Refusal.TheVariants.{File, Line, Tick, Asked, Text}
-use Rattle.height.specs.Refusals.{refusal_number, refusal_place}
+use Rattle.height.specs.Texts.{refusal_text}
 
 -- what was written is at the end of the text, if there was memory for it
 abbrev pub Appends : {E : Type 0} → (was new is : List ℕ) → Result (Unit {0}) E → Type 0
@@ -29,16 +30,12 @@ sight_bytes d = cond (int_le (pos 0) d) (codes "seen " ++ (float_text 30 d ++ co
 
 -- a rising or a setting
 abbrev pub crossing_bytes : Crossing → List ℕ
-crossing_bytes c = cond c.rises (codes "rise ") (codes "set ") ++ (decimal c.tick ++ codes "\n")
-
-unfoldable pub crossings_bytes : List Crossing → List ℕ
-crossings_bytes [] = []
-crossings_bytes (c ∷ cs) = crossing_bytes c ++ crossings_bytes cs
+crossing_bytes c = crossing_text c ++ codes "\n"
 
 -- a table: a line for each, or that there is none
 abbrev pub table_bytes : List Crossing → List ℕ
 table_bytes [] = codes "none\n"
-table_bytes (c ∷ cs) = crossings_bytes (c ∷ cs)
+table_bytes (c ∷ cs) = flat_map crossing_bytes (c ∷ cs)
 
 -- a span's numbers
 abbrev pub span_bytes : (a b c d : ℤ) → List ℕ
@@ -57,14 +54,6 @@ abbrev pub part_bytes : List ℤ → List ℕ
 part_bytes [] = codes "none\n"
 part_bytes (x ∷ xs) = numbers_bytes (x ∷ xs)
 
-abbrev pub reason_bytes : Refusal → List ℕ
-reason_bytes (File p) = codes "the file is not 1 to 4096 spans of four numbers within 16777216"
-reason_bytes Line = codes "the line is beyond 16777216"
-reason_bytes (Tick t) = codes "the tick is not in the file"
-reason_bytes (Asked n) = codes "something else is asked for than above, rise or set"
-reason_bytes (Text l) = codes "the text cannot be read"
-
 -- a refusal: its number, its place, and the reason
 abbrev pub refusal_bytes : Refusal → List ℕ
-refusal_bytes e =
-    codes "refused " ++ (decimal (refusal_number e) ++ (codes " at " ++ (signed_decimal (refusal_place e) ++ (codes ": " ++ (reason_bytes e ++ codes "\n")))))
+refusal_bytes e = refusal_text e ++ codes "\n"

@@ -2,7 +2,7 @@
 use Rattle.std.specs.Prelude.{◌≡◌, ℕ, cond, List, [], ◌∷◌, ◌++◌, ℤ, Some, None, codes, Option}
 use Rattle.std.specs.Fmt.{signed_decimal}
 use Rattle.std.specs.Str.{bytes_eq}
-use Rattle.crossing.specs.declared.event.Event.{Event}
+use Rattle.crossing.specs.Texts.{event_text}
 use Rattle.crossing.specs.declared.event.Event.TheVariants.{Above, Rise, Set}
 use Rattle.text.specs.declared.order.Order.{Order}
 use Rattle.text.specs.declared.order.Order.TheVariants.{Line, First, Height, Spans, Table, Tables}
@@ -26,6 +26,7 @@ keyed_twice w y z = cond (bytes_eq w (codes "spans")) (Some (Spans y z)) None
 abbrev pub keyed_alone : List ℕ → Option Order
 keyed_alone w = cond (bytes_eq w (codes "table")) (Some Tables) None
 
+-- a word and what may be numbers
 abbrev pub with_one : List ℕ → Option ℤ → Option Order
 with_one w None = None
 with_one w (Some z) = keyed w z
@@ -35,44 +36,27 @@ with_two w None o = None
 with_two w (Some y) None = None
 with_two w (Some y) (Some z) = keyed_twice w y z
 
--- what follows two numbers, one number, and the first word of a line: no more words, or more
-abbrev pub after_two : List ℕ → Option ℤ → Option ℤ → List (List ℕ) → Option Order
-after_two w o p [] = with_two w o p
-after_two w o p (v ∷ ws) = None
-
-abbrev pub after_one : List ℕ → Option ℤ → List (List ℕ) → Option Order
-after_one w o [] = with_one w o
-after_one w o (v ∷ ws) = after_two w o (number_of v) ws
-
-abbrev pub after_word : List ℕ → List (List ℕ) → Option Order
-after_word w [] = keyed_alone w
-after_word w (v ∷ ws) = after_one w (number_of v) ws
-
 -- what the words of a line ask for; none where they cannot be read
 abbrev pub order_of : List (List ℕ) → Option Order
 order_of [] = None
-order_of (w ∷ ws) = after_word w ws
+order_of (w ∷ []) = keyed_alone w
+order_of (w ∷ v ∷ []) = with_one w (number_of v)
+order_of (w ∷ v ∷ x ∷ []) = with_two w (number_of v) (number_of x)
+order_of (w ∷ v ∷ x ∷ y ∷ ws) = None
 
 -- how an order is written
 abbrev pub order_bytes : Order → List ℕ
 order_bytes (Line z) = codes "line " ++ signed_decimal z
-order_bytes (First Above z) = codes "above " ++ signed_decimal z
-order_bytes (First Rise z) = codes "rise " ++ signed_decimal z
-order_bytes (First Set z) = codes "set " ++ signed_decimal z
+order_bytes (First e z) = event_text e ++ (codes " " ++ signed_decimal z)
 order_bytes (Height z) = codes "height " ++ signed_decimal z
 order_bytes (Spans y z) = codes "spans " ++ (signed_decimal y ++ (codes " " ++ signed_decimal z))
 order_bytes (Table z) = codes "table " ++ signed_decimal z
 order_bytes Tables = codes "table"
 
 -- the word that an order begins with, and its numbers
-abbrev pub event_key : Event → List ℕ
-event_key Above = codes "above"
-event_key Rise = codes "rise"
-event_key Set = codes "set"
-
 abbrev pub key : Order → List ℕ
 key (Line z) = codes "line"
-key (First e z) = event_key e
+key (First e z) = event_text e
 key (Height z) = codes "height"
 key (Spans y z) = codes "spans"
 key (Table z) = codes "table"

@@ -1,6 +1,8 @@
 -- A number's sign. Assumes nothing.
-use Rattle.std.proofs.Common.{◌≡◌, ℕ, ◌^◌, ◌<◌, ◌≤◌, true, false, List, [], ◌∷◌, length, drop, pos, ◌-ℤ◌, neg_ℤ, nat_abs, Option, sym, refl, ap, ◌∙◌, arith, w64, to_z, of_z}
+use Rattle.std.proofs.Common.{◌≡◌, ℕ, ◌^◌, ◌<◌, true, false, eqb, List, [], ◌∷◌, take, drop, codes, pos, ◌-ℤ◌, neg_ℤ, nat_abs, Option, sym, refl, ap, ◌∙◌, arith, w64, to_z, of_z}
 use Rattle.std.specs.Option.{option_map}
+use Rattle.std.specs.Str.{bytes_eq}
+use Rattle.std.proofs.Math.Bool.{and-true}
 use Rattle.std.proofs.lemmas.Int.{ints}
 use Rattle.std.proofs.lemmas.Bool.{cond-true, cond-false}
 use Rattle.words.specs.Numbers.{figures_of, minus_first, number_of}
@@ -20,6 +22,7 @@ negated n h = omega (arith, ints)
 pub kept : (n : ℕ) → n < 10 ^ 18 → to_z w64 n ≡ pos n
 kept n h = omega (arith, ints)
 
-pub empty_plain : (bs : List ℕ) → length bs ≤ 0 → false ≡ minus_first bs
-empty_plain [] h = refl
-empty_plain (b ∷ bs) h = absurd (omega arith)
+-- whether a minus can be stripped
+pub stripped : (bs : List ℕ) → bytes_eq (take 1 bs) (codes "-") ≡ minus_first bs
+stripped [] = refl
+stripped (b ∷ bs) = and-true (eqb b 45)

@@ -1,7 +1,10 @@
 -- The first word of a line, and the words of what follows it. Assumes nothing.
-use Rattle.std.proofs.Common.{◌≡◌, ℕ, suc, ◌+◌, ◌<◌, ◌≤◌, Bool, true, false, not, List, [], ◌∷◌, length, take, drop, sym, refl, ap, ◌∙◌, subst, one-add, arith}
+use Rattle.std.proofs.Common.{◌≡◌, ℕ, suc, ◌<◌, Bool, true, false, not, List, [], ◌∷◌, length, take, drop, Option, sym, refl, ap, ◌∙◌, subst, one-add, add-one, arith, length-drop}
 use mathlib.Core.Bool.{beq}
-use Rattle.std.specs.List.{prefix_len}
+use Rattle.std.specs.List.{prefix_len, AllWithin, HoldsAt}
+use Rattle.std.proofs.lemmas.List.{drop_all}
+use Rattle.std.specs.Option.{MatchOption, unwrap_or}
+use Rattle.std.proofs.lemmas.Iterator.{index_from_first}
 use Rattle.std.proofs.lemmas.Bool.{cond-true, cond-false}
 use Rattle.words.specs.Words.{blank, before_first, pieces, filled, words}
 
@@ -63,23 +66,23 @@ first_piece (x ∷ xs) = go (blank x) refl (first_piece xs)
     go true e rest = subst (λ (k : ℕ). (t : List (List ℕ)) × (pieces (x ∷ xs) ≡ take k (x ∷ xs) ∷ t) × (filled t ≡ words (drop k (x ∷ xs)))) (sym (lead_no false x xs e)) (pieces xs, cond-true _ _ _ e, sym (blank_first x xs e))
     go false e rest = subst (λ (k : ℕ). (t : List (List ℕ)) × (pieces (x ∷ xs) ≡ take k (x ∷ xs) ∷ t) × (filled t ≡ words (drop k (x ∷ xs)))) (sym (lead_yes false x xs e)) (rest.0, cond-false _ _ _ e ∙ ap (before_first x) rest.1, rest.2)
 
-kept : (b : ℕ) (w : List ℕ) (t : List (List ℕ)) → filled ((b ∷ w) ∷ t) ≡ (b ∷ w) ∷ filled t
-unfolding filled
-kept b w t = refl
-
 no_words : words [] ≡ []
 unfolding pieces filled
 no_words = refl
 
--- the first word, and what follows it, from where the line's first word begins
-pub record Split (line word after : List ℕ) : Type 0 where
-  pub none : length word ≡ 0 → words line ≡ []
-  pub some : 0 < length word → words line ≡ word ∷ words after
-  pub less : 0 < length word → length after < length line
+kept : (w : List ℕ) (t : List (List ℕ)) → 0 < length w → filled (w ∷ t) ≡ w ∷ filled t
+unfolding filled
+kept [] t h = absurd (omega arith)
+kept (b ∷ w) t h = refl
 
-pub splits : (line rest word after : List ℕ) → rest ≡ drop (lead true line) line → word ≡ take (lead false rest) rest → after ≡ drop (lead false rest) rest → length word + length after ≡ length rest → length rest ≤ length line → Split line word after
-splits line rest word after rest-is word-is after_is all le =
-    record { none = none; some = λ h. same ∙ ap filled piece.1 ∙ ap (λ (w : List ℕ). filled (w ∷ piece.0)) (sym word-is) ∙ keep word piece.0 h ∙ ap (λ (l : List (List ℕ)). word ∷ l) (piece.2 ∙ ap words (sym after_is)); less = λ h. omega arith }
+-- a line of blanks has no words
+pub no_word : (line : List ℕ) → lead true line ≡ length line → words line ≡ []
+no_word line h = drop_blanks line ∙ ap words (ap (λ (k : ℕ). drop k line) h ∙ drop_all (length line) line (omega arith)) ∙ no_words
+
+-- the first word of any other, and what follows it
+pub first_word : (line rest word after : List ℕ) → lead true line < length line → rest ≡ drop (lead true line) line → word ≡ take (lead false rest) rest → after ≡ drop (lead false rest) rest → words line ≡ word ∷ words after
+first_word line rest word after h rest-is word-is after-is =
+    same ∙ ap filled piece.1 ∙ ap (λ (w : List ℕ). filled (w ∷ piece.0)) (sym word-is) ∙ kept word piece.0 (some rest word (subst Begins (sym rest-is) (begins line)) (omega (arith, ap length rest-is, length-drop (lead true line) line)) word-is) ∙ ap (λ (l : List (List ℕ)). word ∷ l) (piece.2 ∙ ap words (sym after-is))
   where
     same : words line ≡ words rest
     same = drop_blanks line ∙ ap words (sym rest-is)
@@ -87,13 +90,24 @@ splits line rest word after rest-is word-is after_is all le =
     piece : FirstPiece rest
     piece = first_piece rest
 
-    keep : (w : List ℕ) (t : List (List ℕ)) → 0 < length w → filled (w ∷ t) ≡ w ∷ filled t
-    keep [] t h = absurd (omega arith)
-    keep (b ∷ w) t h = kept b w t
+    some : (xs w : List ℕ) → Begins xs → 0 < length xs → w ≡ take (lead false xs) xs → 0 < length w
+    some [] w b l e = absurd (omega arith)
+    some (x ∷ xs) w b l e = omega (arith, ap length (e ∙ ap (λ (k : ℕ). take k (x ∷ xs)) (lead_yes false x xs b)))
 
-    nothing : (xs ws : List ℕ) → Begins xs → ws ≡ take (lead false xs) xs → length ws ≡ 0 → words xs ≡ []
-    nothing [] ws b e h = no_words
-    nothing (x ∷ xs) ws b e h = absurd (omega (arith, ap length (e ∙ ap (λ (k : ℕ). take k (x ∷ xs)) (lead_yes false x xs b)), h))
+-- `position` finds where a line's blanks in front end, or its first word
+pub counted : (b : Bool) (xs : List ℕ) (r : Option ℕ) → MatchOption r (AllWithin (λ x. blank x ≡ b) xs 0 (length xs)) (λ i. (i < length xs) × HoldsAt (λ x. blank x ≡ not b) xs i × AllWithin (λ x. blank x ≡ b) xs 0 i) → lead b xs ≡ unwrap_or r (length xs)
+counted b = index_from_first (lead b) (λ x. blank x ≡ not b) (λ x. blank x ≡ b) refl (lead_no b) (λ x xs h. lead_yes b x xs h ∙ sym (add-one (lead b xs)))
 
-    none : length word ≡ 0 → words line ≡ []
-    none h = same ∙ nothing rest word (subst Begins (sym rest-is) (begins line)) word-is h
+-- a word has a byte
+abbrev first_of : List (List ℕ) → List ℕ
+first_of [] = []
+first_of (w ∷ ws) = w
+
+filled_some : (ps ws : List (List ℕ)) (w : List ℕ) → filled ps ≡ w ∷ ws → 0 < length w
+unfolding filled
+filled_some [] ws w e = absurd (omega (arith, ap length e))
+filled_some ([] ∷ ps) ws w e = filled_some ps ws w e
+filled_some ((b ∷ v) ∷ ps) ws w e = omega (arith, ap (λ (l : List (List ℕ)). length (first_of l)) e)
+
+pub word_some : (line w : List ℕ) (ws : List (List ℕ)) → words line ≡ w ∷ ws → 0 < length w
+word_some line w ws e = filled_some (pieces line) ws w e

@@ -1,5 +1,6 @@
 -- The words of a line. Assumes nothing: these are definitions.
 use Rattle.std.specs.Prelude.{ℕ, Bool, cond, ◌||◌, List, [], ◌∷◌, ◌==◌}
+use Rattle.words.specs.declared.split.Words.{Words}
 
 -- a blank or a tab
 abbrev pub blank : ℕ → Bool
@@ -24,3 +25,7 @@ filled ((b ∷ w) ∷ ws) = (b ∷ w) ∷ filled ws
 -- the words of a line: what stands between blanks
 abbrev pub words : List ℕ → List (List ℕ)
 words bs = filled (pieces bs)
+
+-- those that an iterator has still to give
+abbrev pub words_left : Words → List (List ℕ)
+words_left w = words w.rest.now

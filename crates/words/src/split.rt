@@ -1,8 +1,7 @@
 // A line's words, one after the other.
-ghost use Rattle.std.specs.Prelude.{◌≡◌, ◌<◌, ◌≤◌, List, [], ◌∷◌, length};
-ghost use Rattle.words.specs.Words.{blank, words};
-ghost use Rattle.std.specs.List.{prefix_len};
-ghost use Rattle.std.specs.Bool.{beq};
+ghost use Rattle.std.specs.Prelude.{◌≡◌};
+ghost use Rattle.std.specs.Iterator.{YieldsFirstRef, item_count};
+ghost use Rattle.words.specs.Words.{blank, words, words_left};
 
 // A blank or a tab.
 fn is_blank(byte: u8) -> bool
@@ -11,27 +10,34 @@ fn is_blank(byte: u8) -> bool
     byte == b' ' || byte == b'\t'
 }
 
-// How many bytes at the front are blank, or are not.
-fn front(bytes: &[u8], blanks: bool) -> usize
-    ensures value { result ≡ prefix_len (λ b. beq (blank b) blanks) bytes.now }
-    ensures within { result ≤ length bytes.now }
-{
-    for (i, byte) in bytes.iter().enumerate() {
-        if is_blank(*byte) != blanks {
-            return i;
-        }
-    }
-    bytes.len()
+// The words of a line that are still to come.
+#[derive(Clone, Copy)]
+pub struct Words<'a> {
+    rest: &'a [u8],
 }
 
-// The first word of a line, and what follows it; no word where the line has none.
-pub fn first_word<'a>(line: &'a [u8]) -> (&'a [u8], &'a [u8])
-    ensures none { length result.0.now ≡ 0 → words line.now ≡ [] }
-    ensures some { 0 < length result.0.now → words line.now ≡ result.0.now ∷ words result.1.now }
-    ensures less { 0 < length result.0.now → length result.1.now < length line.now }
-{
-    let start = front(line, true);
-    let (_, rest) = line.split_at(start);
-    let end = front(rest, false);
-    rest.split_at(end)
+impl<'a> Words<'a> {
+    // It stands before all words of the line.
+    pub fn new(line: &'a [u8]) -> Words<'a>
+        ensures { words_left result ≡ words line.now }
+    {
+        Words { rest: line }
+    }
+}
+
+impl<'a> Iterator for Words<'a> {
+    type Item = &'a [u8];
+
+    ghost next_gives = { YieldsFirstRef words_left };
+
+    ghost remaining = { item_count words_left };
+
+    fn next(&mut self) -> Option<&'a [u8]> {
+        let start = self.rest.iter().position(|b| !is_blank(*b))?;
+        let (_, rest) = self.rest.split_at(start);
+        let end = rest.iter().position(|b| is_blank(*b)).unwrap_or(rest.len());
+        let (word, rest) = rest.split_at(end);
+        self.rest = rest;
+        Some(word)
+    }
 }

@@ -1,21 +1,24 @@
-use Rattle.std.proofs.Common.{[], arith}
-use Rattle.decimal.proofs.Writing.{all_written, next_figure, rest_small, unit_some}
+use Rattle.std.proofs.Common.{refl, arith, rules}
+use Rattle.std.proofs.Output.{has_written_append, has_written_of_eq}
+use Rattle.decimal.proofs.Writing.{all_written, next_figure, none_left, rest_small}
 use Rattle.decimal.proofs.figures.put_figures.Goals as goal
 
 pub overflow_mul-tenfold : goal.overflow_mul-tenfold
-overflow_mul-tenfold c = omega (arith, rest_small _ _ _ _ c.loop-rest.invariant)
+overflow_mul-tenfold g c =
+    let (done, is, wrote) = c.loop-left.invariant in
+    omega (arith, rest_small _ _ _ _ is)
 
-pub nonzero_div-figure : goal.nonzero_div-figure
-nonzero_div-figure c = unit_some _ (omega (arith, c.loop-rest.invariant.few))
+pub loop-left-preserved : goal.loop-left-preserved
+loop-left-preserved g c =
+    let (done, is, wrote) = c.loop-left.invariant in
+    (_, next_figure _ _ done _ _ is (omega (arith, c.if-rest-eq0.false)) refl, λ plain. has_written_append _ _ _ _ _ _ (wrote plain) (search rules))
 
-pub overflow_cast-figure : goal.overflow_cast-figure
-overflow_cast-figure c = omega (arith, (next_figure _ _ _ [] _ c.loop-rest.invariant c.loop-rest-test.true).0)
+pub returns-then-rest-eq0 : goal.returns-then-rest-eq0
+returns-then-rest-eq0 g c plain ok =
+    let (done, is, wrote) = c.loop-left.invariant in
+    has_written_of_eq _ _ _ _ _ (all_written _ _ _ _ is (omega (arith, c.if-rest-eq0.true))) (wrote plain)
 
-pub nonzero_rem-rest : goal.nonzero_rem-rest
-nonzero_rem-rest c = unit_some _ (omega (arith, c.loop-rest.invariant.few))
-
-pub loop-rest-preserved : goal.loop-rest-preserved
-loop-rest-preserved c = (next_figure _ _ _ _ _ c.loop-rest.invariant c.loop-rest-test.true).1 c.in_ok-write.ensures.bytes
-
-pub returns : goal.returns
-returns c = all_written _ _ _ _ c.loop-rest.invariant c.loop-rest-test.false
+pub returns-after-loop-left : goal.returns-after-loop-left
+returns-after-loop-left g c plain ok =
+    let (done, is, wrote) = c.loop-left.invariant in
+    has_written_of_eq _ _ _ _ _ (none_left _ _ _ _ is (omega (arith, c.loop-left-test.false))) (wrote plain)

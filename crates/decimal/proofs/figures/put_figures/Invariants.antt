@@ -1,11 +1,10 @@
-use Rattle.std.proofs.Common.{◌++◌, string_bytes}
+use Rattle.std.proofs.Common.{ℕ, List}
+use Rattle.std.specs.Fmt.{HasWritten, IsPlainFormatter}
 use Rattle.decimal.specs.Figures.{figures}
 use Rattle.decimal.proofs.Writing.{Writing}
 use Rattle.decimal.proofs.figures.put_figures.Given as goal
 
-abbrev pub invariant-loop-rest : goal.invariant-loop-rest
-invariant-loop-rest l =
-    Writing l.left l.rest (string_bytes l.out) (string_bytes l.initial.out ++ figures l.places l.part)
-
-abbrev pub decreases-loop-rest : goal.decreases-loop-rest
-decreases-loop-rest l = l.left
+abbrev pub invariant-loop-left : goal.invariant-loop-left
+invariant-loop-left g l =
+    (done : List ℕ) × Writing l.left l.rest done (figures l.places l.part)
+    × (IsPlainFormatter l.initial.f → HasWritten g.W.Write.write_str_gives l.initial.f done l.f)

@@ -20,7 +20,7 @@ returns-then-seen-wanted g c =
     let s = c.evaluate-seen.ensures.seen in
     let is = agrees _ _ c.if-seen-wanted.true in
     record {
-      first = record { from = omega arith; within = omega arith; none = c.loop-tick.invariant.2; here = λ h. sym s.here ∙ is };
+      first = (omega arith, omega arith, sym s.here ∙ is, c.loop-tick.invariant.2);
       walked = walked_here (g.S.Signal.course c.args.signal.now) _ c.args.from c.loop-tick.evaluations _ _ _ s is c.loop-tick.invariant.3 (omega arith);
       counted = omega arith;
       small = (omega arith, omega arith);

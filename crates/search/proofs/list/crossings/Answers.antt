@@ -1,29 +1,25 @@
-use Rattle.std.proofs.Common.{◌≡◌, ◌-◌, vec_items, refl, ap, ◌∙◌, arith}
-use Rattle.crossing.specs.Events.{crossings}
-use Rattle.search.proofs.Collecting.{collected_start, collected_none, collected_one}
+use Rattle.std.proofs.Common.{◌-◌, vec_items, None, Some}
+use Rattle.crossing.specs.Events.{crossings as crossings_of}
+use Rattle.search.proofs.Collecting.{came_on, came_to_end, listed_all, listed_on}
 use Rattle.search.proofs.list.crossings.Goals as goal
 
-pub returns-then-from-end : goal.returns-then-from-end
-unfolding crossings
-returns-then-from-end g c =
+pub loop-crossing-preserved : goal.loop-crossing-preserved
+loop-crossing-preserved g c =
     let m = g.S.Signal.course c.args.signal.now in
-    let e : 0 ≡ m.stop - c.args.from = omega arith in
-    (c.new-list.ensures.items ∙ ap (crossings m.so c.args.from) e, (λ h. refl, λ h. omega arith))
+    let was = c.loop-crossing.walk in
+    let is = c.next.new.self in
+    let step = rw c.loop-crossing.invariant.0 at c.in-Some.ensures.steps in (
+      step.0,
+      (rw c.in_ok-push.ensures.items (listed_on m was.tick was.evaluations is.tick is.evaluations c.in-Some.crossing (vec_items c.loop-crossing.crossings) (crossings_of m.so c.args.from (m.stop - c.args.from)) c.loop-crossing.invariant.1 step.1)),
+      came_on m c.args.from was.tick was.evaluations is.tick is.evaluations (Some c.in-Some.crossing) c.loop-crossing.invariant.2 step.1,
+    )
 
-pub loop-tick-init : goal.loop-tick-init
-loop-tick-init g c = (
-  collected_start (g.S.Signal.course c.args.signal.now) c.args.from c.saturating_sub.result c.evaluate-before.result.till c.evaluate-before.result.holds (vec_items c.new-list.result) c.saturating_sub.ensures c.new-list.ensures.items c.evaluate-before.ensures.seen,
-  omega arith,
-)
-
-pub loop-tick-preserved-in_ok-push : goal.loop-tick-preserved-in_ok-push
-loop-tick-preserved-in_ok-push g c = (
-  collected_one (g.S.Signal.course c.args.signal.now) c.args.from c.loop-tick.tick c.first_where-found.result.tick c.first_where-found.result.till c.loop-tick.evaluations c.first_where-found.result.evaluations c.loop-tick.above (vec_items c.loop-tick.list) (vec_items c.push.new.self) c.loop-tick.invariant.0 c.first_where-found.ensures.first c.first_where-found.ensures.walked (omega arith) c.in_ok-push.ensures.items,
-  omega arith,
-)
-
-pub loop-tick-preserved : goal.loop-tick-preserved
-loop-tick-preserved g c = (
-  collected_none (g.S.Signal.course c.args.signal.now) c.args.from c.loop-tick.tick c.first_where-found.result.tick c.first_where-found.result.till c.loop-tick.evaluations c.first_where-found.result.evaluations c.loop-tick.above (vec_items c.loop-tick.list) c.loop-tick.invariant.0 c.first_where-found.ensures.first c.first_where-found.ensures.walked (omega arith),
-  omega arith,
-)
+pub returns : goal.returns
+returns g c =
+    let m = g.S.Signal.course c.args.signal.now in
+    let was = c.loop-crossing.walk in
+    let is = c.next.new.self in
+    let step = rw c.loop-crossing.invariant.0 at c.in_default.ensures.steps in (
+      listed_all m was.tick was.evaluations is.tick is.evaluations (vec_items c.loop-crossing.crossings) (crossings_of m.so c.args.from (m.stop - c.args.from)) c.loop-crossing.invariant.1 step.1,
+      (rw c.evaluations.ensures (came_to_end m c.args.from is.tick is.evaluations step.1.next.1 (came_on m c.args.from was.tick was.evaluations is.tick is.evaluations None c.loop-crossing.invariant.2 step.1))),
+    )

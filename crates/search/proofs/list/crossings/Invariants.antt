@@ -1,11 +1,11 @@
-use Rattle.std.proofs.Common.{◌-◌, ◌≤◌, vec_items}
-use Rattle.search.proofs.Collecting.{Collected}
+use Rattle.std.proofs.Common.{◌≡◌, ◌-◌, ◌++◌, vec_items}
+use Rattle.crossing.specs.Events.{crossings}
+use Rattle.search.specs.Walks.{Came, left}
 use Rattle.search.proofs.list.crossings.Given as goal
 
-abbrev pub invariant-loop-tick : goal.invariant-loop-tick
-invariant-loop-tick g l =
-    Collected (g.S.Signal.course l.signal) l.from l.tick (vec_items l.list) l.above l.evaluations
-    × (l.end ≤ 268435456)
-
-abbrev pub decreases-loop-tick : goal.decreases-loop-tick
-decreases-loop-tick g l = l.end - l.tick
+abbrev pub invariant-loop-crossing : goal.invariant-loop-crossing
+invariant-loop-crossing g l =
+    let m = g.S.Signal.course l.signal in
+    (l.walk.signal.now ≡ l.signal)
+    × (vec_items l.crossings ++ left m l.walk.tick ≡ crossings m.so l.from (m.stop - l.from))
+    × Came m l.from l.walk.tick l.walk.evaluations

@@ -9,13 +9,12 @@ use Rattle.sight.proofs.every.first_of_every.Goals as goal
 pub returns-then-happens_now : goal.returns-then-happens_now
 returns-then-happens_now g c =
     let f = over (g.S.Source.almanac c.args.source.now) c.args.level in
-    let fl : SFits w64 c.args.level = c.ranges.level in
-    record {
-      from = omega arith;
-      within = omega arith;
-      none = simp to_z-of_z at c.loop-tick.invariant.1;
-      here = λ h. happened c.args.event f c.loop-tick.tick c.happens_now.result c.is_over-is.result c.loop-tick.was c.happens_now.ensures (simp to_z-of_z at c.is_over-is.ensures) (simp to_z-of_z at c.loop-tick.invariant.0) ∙ c.if-happens_now.true;
-    }
+    let fl : SFits w64 c.args.level = c.ranges.level in (
+      omega arith,
+      omega arith,
+      happened c.args.event f c.loop-tick.tick c.happens_now.result c.is_over-is.result c.loop-tick.was c.happens_now.ensures (simp to_z-of_z at c.is_over-is.ensures) (simp to_z-of_z at c.loop-tick.invariant.0) ∙ c.if-happens_now.true,
+      simp to_z-of_z at c.loop-tick.invariant.1,
+    )
 
 -- one tick more
 pub loop-tick-preserved : goal.loop-tick-preserved

@@ -1,8 +1,9 @@
-use Rattle.std.proofs.Common.{◌≡◌, ◌*◌, ◌++◌, drop, string_bytes}
-use Rattle.text.specs.Answers.{numbers_bytes}
+use Rattle.std.proofs.Common.{◌≡◌, ◌++◌, take, string_bytes}
+use Rattle.std.specs.List.{flat_map}
+use Rattle.text.proofs.Writing.{four_bytes}
 use Rattle.text.proofs.answer.put_part.Given as goal
 
--- what is written, and what is to come, are all of it
-abbrev pub invariant-loop-i : goal.invariant-loop-i
-invariant-loop-i l =
-    string_bytes l.out ++ numbers_bytes (drop (4 * l.i) l.part) ≡ string_bytes l.initial.out ++ numbers_bytes l.part
+-- the lines so far
+abbrev pub invariant-loop-a : goal.invariant-loop-a
+invariant-loop-a l =
+    string_bytes l.out ≡ string_bytes l.initial.out ++ flat_map four_bytes (take l.a-index l.spans)

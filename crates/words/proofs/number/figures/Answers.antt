@@ -1,14 +1,12 @@
-use Rattle.std.proofs.Common.{◌≡◌, ◌<◌, ◌≤◌, ◌⊎◌, length, get_or, None, sym, ◌∙◌, inl, inr, arith}
-use Rattle.words.specs.Numbers.{figures_of}
+use Rattle.std.proofs.Common.{◌<◌, length, get_or, sym, ◌∙◌, arith, rules}
+use Rattle.std.proofs.lemmas.Bool.{eqb-true}
 use Rattle.words.proofs.Figures.{reading_more, reading_stops, reading_ends, reading_fits, reading_small, digit_le, too_short, too_long}
 use Rattle.words.proofs.number.figures.Goals as goal
+use Rattle.words.proofs.number.figures.Goals.{then-is_empty-via-then-is_empty, then-is_empty-via-else-is_empty+then-word-gt-MOST}
 
-pub returns-then-count-lt1 : goal.returns-then-count-lt1
-returns-then-count-lt1 c = record { value = none c.then-count-lt1.either; small = tt }
-  where
-    none : (length c.args.word.now < 1) ⊎ ((1 ≤ length c.args.word.now) × (18 < length c.args.word.now)) → None ≡ figures_of c.args.word.now
-    none (inl p) = sym (too_short c.args.word.now (omega arith))
-    none (inr p) = sym (too_long c.args.word.now p.1)
+pub returns-then-is_empty-clause-value : goal.returns-then-is_empty-clause-value
+returns-then-is_empty-clause-value c =
+    elim c.then-is_empty.branch [ then-is_empty-via-then-is_empty w ↦ sym (too_short c.args.word.now (eqb-true (length c.args.word.now) 0 (sym c.is_empty.ensures ∙ w.if-is_empty.true))) | then-is_empty-via-else-is_empty+then-word-gt-MOST w ↦ sym (too_long c.args.word.now w.if-word-gt-MOST.true) ]
 
 pub returns-then-not-is_ascii_digit : goal.returns-then-not-is_ascii_digit
 returns-then-not-is_ascii_digit c =
@@ -29,4 +27,5 @@ loop-byte-preserved c =
 
 pub returns : goal.returns
 returns c =
-    record { value = sym (reading_ends c.args.word.now c.loop-byte.byte-index c.loop-byte.n c.loop-byte.invariant (omega arith) (omega arith) (omega arith)); small = reading_small c.args.word.now c.loop-byte.byte-index c.loop-byte.n c.loop-byte.invariant (omega arith) }
+    let some : 0 < length c.args.word.now = search rules in
+    record { value = sym (reading_ends c.args.word.now c.loop-byte.byte-index c.loop-byte.n c.loop-byte.invariant (omega arith) some (omega arith)); small = reading_small c.args.word.now c.loop-byte.byte-index c.loop-byte.n c.loop-byte.invariant (omega arith) }

@@ -1,21 +1,21 @@
 use Rattle.std.proofs.Common.{Some, None, sym, ap, ◌∙◌}
-use Rattle.words.proofs.Signs.{with_minus, without_minus, negated, kept}
+use Rattle.words.proofs.Signs.{with_minus, without_minus, negated, kept, stripped}
 use Rattle.words.proofs.number.number.Goals as goal
 
-pub returns-in-Some : goal.returns-in-Some
-returns-in-Some c =
-    let p = negated c.in-Some.n c.in-Some.ensures.small in
-    record { value = ap Some p.0 ∙ with_minus c.args.word.now c.split_at.result.1.now (Some c.in-Some.n) (sym c.has_minus.ensures.value ∙ c.if-has_minus.true) c.split_at.ensures.back c.in-Some.ensures.value; small = rw p.0 p.1 }
+pub returns-in_err-figures-in-Some-clause-value : goal.returns-in_err-figures-in-Some-clause-value
+returns-in_err-figures-in-Some-clause-value c =
+    c.from_residual.ensures ∙ with_minus c.args.word.now c.in-Some.after.now None (sym (stripped c.args.word.now) ∙ c.in-Some.ensures.cases.0) c.in-Some.ensures.cases.1 c.in_err-figures-in-Some.ensures.value
 
-pub returns-in-None : goal.returns-in-None
-returns-in-None c =
-    record { value = with_minus c.args.word.now c.split_at.result.1.now None (sym c.has_minus.ensures.value ∙ c.if-has_minus.true) c.split_at.ensures.back c.in-None.ensures.value; small = tt }
+pub returns-in_err-figures-in-None-clause-value : goal.returns-in_err-figures-in-None-clause-value
+returns-in_err-figures-in-None-clause-value c =
+    c.from_residual-in_err-figures-in-None.ensures ∙ without_minus c.args.word.now None (sym (stripped c.args.word.now) ∙ c.in-None.ensures.cases) c.in_err-figures-in-None.ensures.value
 
-pub returns-in-Some-figures : goal.returns-in-Some-figures
-returns-in-Some-figures c =
-    let p = kept c.in-Some-figures.n c.in-Some-figures.ensures.small in
-    record { value = ap Some p ∙ without_minus c.args.word.now (Some c.in-Some-figures.n) (sym c.has_minus.ensures.value ∙ c.if-has_minus.false) c.in-Some-figures.ensures.value; small = rw p c.in-Some-figures.ensures.small }
+pub returns-in_ok-figures-in-Some-clause-value : goal.returns-in_ok-figures-in-Some-clause-value
+returns-in_ok-figures-in-Some-clause-value c =
+    let n = c.in_ok-figures-in-Some.field-0 in
+    ap Some (negated n c.in_ok-figures-in-Some.ensures.small).0 ∙ with_minus c.args.word.now c.in-Some.after.now (Some n) (sym (stripped c.args.word.now) ∙ c.in-Some.ensures.cases.0) c.in-Some.ensures.cases.1 c.in_ok-figures-in-Some.ensures.value
 
-pub returns-in-None-figures : goal.returns-in-None-figures
-returns-in-None-figures c =
-    record { value = without_minus c.args.word.now None (sym c.has_minus.ensures.value ∙ c.if-has_minus.false) c.in-None-figures.ensures.value; small = tt }
+pub returns-in_ok-figures-in-None-clause-value : goal.returns-in_ok-figures-in-None-clause-value
+returns-in_ok-figures-in-None-clause-value c =
+    let n = c.in_ok-figures-in-None.field-0 in
+    ap Some (kept n c.in_ok-figures-in-None.ensures.small) ∙ without_minus c.args.word.now (Some n) (sym (stripped c.args.word.now) ∙ c.in-None.ensures.cases) c.in_ok-figures-in-None.ensures.value

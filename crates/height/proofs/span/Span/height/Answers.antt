@@ -3,12 +3,6 @@ use Rattle.height.specs.Spans.{height}
 use Rattle.height.proofs.Sums.{square_le, cube_le, product, sum_fits, sums_fit, sums_code, sums_size}
 use Rattle.height.proofs.span.Span.height.Goals as goal
 
-pub overflow_mul-cube : goal.overflow_mul-cube
-overflow_mul-cube c = omega (arith, cube_le c.args.tick c.requires.inside)
-
-pub overflow_mul-square-2 : goal.overflow_mul-square-2
-overflow_mul-square-2 c = omega (arith, square_le c.args.tick c.requires.inside)
-
 a-is : (c : goal.After-times-d) → (c.times-a.result ≡ c.args.self.a *ℤ pos 1073741824) × (nat_abs c.times-a.result ≤ 2 ^ 55)
 a-is c = product c.args.self.a c.times-a.result 1073741824 c.requires.small.a (lit≤ tt) c.times-a.ensures
 
@@ -42,7 +36,10 @@ value c =
     let e = (c-is c).0 ∙ ap (λ (k : ℕ). c.args.self.c *ℤ pos k) (shared c.args.tick) in
     (λ i. (a-is c).0 i +ℤ (b-is c).0 i +ℤ e i +ℤ (d-is c).0 i)
 
-pub returns : goal.returns
-returns c =
-    let e = sums_code c.times-a.result c.times-b.result c.times-c.result c.times-d.result (a-is c).1 (b-is c).1 (c-is c).1 (d-is c).1 in
-    record { value = e ∙ value c; size = rw e (sums_size c.times-a.result c.times-b.result c.times-c.result c.times-d.result (a-is c).1 (b-is c).1 (c-is c).1 (d-is c).1); counted = c.raise.ensures }
+pub returns-clause-value : goal.returns-clause-value
+returns-clause-value c = sums_code c.times-a.result c.times-b.result c.times-c.result c.times-d.result (a-is c).1 (b-is c).1 (c-is c).1 (d-is c).1 ∙ value c
+
+pub returns-clause-size : goal.returns-clause-size
+returns-clause-size c =
+    rw (sums_code c.times-a.result c.times-b.result c.times-c.result c.times-d.result (a-is c).1 (b-is c).1 (c-is c).1 (d-is c).1)
+    (sums_size c.times-a.result c.times-b.result c.times-c.result c.times-d.result (a-is c).1 (b-is c).1 (c-is c).1 (d-is c).1)

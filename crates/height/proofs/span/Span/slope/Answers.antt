@@ -7,13 +7,13 @@ use Rattle.height.proofs.span.Span.slope.Goals as goal
 size : (x : ℤ) → SFits w32 x → (nat_abs (to_z w32 (of_z w32 x)) ≡ nat_abs x) × (nat_abs x ≤ 2 ^ 31)
 size x f = omega (arith, ints)
 
-pub returns : goal.returns
+pub returns-clause-value : goal.returns-clause-value
 unfolding slope
-returns c =
+returns-clause-value c =
     let fb : SFits w32 c.args.self.b = search rules in
     let fc : SFits w32 c.args.self.c = search rules in
     let fd : SFits w32 c.args.self.d = search rules in
     let b = c.unsigned_abs-b.ensures.value ∙ (size c.args.self.b fb).0 in
     let e = c.unsigned_abs-c.ensures.value ∙ (size c.args.self.c fc).0 in
     let d = c.unsigned_abs-d.ensures.value ∙ (size c.args.self.d fd).0 in
-    record { value = omega (arith, b, e, d); size = omega (arith, b, e, d, (size c.args.self.b fb).1, (size c.args.self.c fc).1, (size c.args.self.d fd).1) }
+    omega (arith, b, e, d)

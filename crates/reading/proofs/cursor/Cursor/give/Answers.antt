@@ -1,4 +1,4 @@
-use Rattle.std.proofs.Common.{refl, ap, ◌∙◌, arith, w64, SFits, rules}
+use Rattle.std.proofs.Common.{ap, ◌∙◌, arith, w64, SFits, rules}
 use Rattle.std.proofs.lemmas.Int.{to_z-of_z}
 use Rattle.height.specs.Files.{span_at}
 use Rattle.height.specs.Views.{almanac_of}
@@ -22,12 +22,8 @@ invariant_of-self c =
       stands = (λ i. record { height = e.height i; first = e.first i; second = e.second i; third = e.third i }) ∙ ap onward v.stands ∙ onward_is 1024 (span_at v.view.numbers.now v.span) v.at;
     }
 
-pub returns : goal.returns
-returns c =
+pub returns-clause-value : goal.returns-clause-value
+returns-clause-value c =
     let v = c.args.self.now in
     let f : SFits w64 v.differences.height = search rules in
-    record {
-      value = moment_is (almanac_of v.view) v.span v.at c.tick.result _ c.requires c.tick.ensures (to_z-of_z w64 v.differences.height f ∙ ap (λ r. r.height) v.stands);
-      stands = record { file = refl; tick = omega arith };
-      at = refl;
-    }
+    moment_is (almanac_of v.view) v.span v.at c.tick.result _ c.requires c.tick.ensures (to_z-of_z w64 v.differences.height f ∙ ap (λ r. r.height) v.stands)

@@ -4,15 +4,6 @@ use Rattle.reading.proofs.Rises.{first_is, second_is, third_is}
 use Rattle.reading.proofs.Sums.{two_code, three_fit, three_code, alone}
 use Rattle.reading.proofs.differences.Differences.of.Goals as goal
 
-pub overflow_mul-u-4 : goal.overflow_mul-u-4
-overflow_mul-u-4 c = omega (arith, square_le c.args.tick c.requires.inside)
-
-pub overflow_add-u-2 : goal.overflow_add-u-2
-overflow_add-u-2 c = omega (arith, square_le c.args.tick c.requires.inside)
-
-pub overflow_add-u-3 : goal.overflow_add-u-3
-overflow_add-u-3 c = omega (arith, square_le c.args.tick c.requires.inside)
-
 b-is : (c : goal.After-height-height) → (c.times-b.result ≡ c.args.span.b *ℤ pos 1048576) × (nat_abs c.times-b.result ≤ 2 ^ 55)
 b-is c = product c.args.span.b c.times-b.result 1048576 c.requires.small.b (lit≤ tt) c.times-b.ensures
 

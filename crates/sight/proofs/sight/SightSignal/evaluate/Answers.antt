@@ -19,7 +19,7 @@ seen g c =
     (height_read m c.args.tick c.span_ticks-n.result 1024 c.span-span.result c.height-height.result c.span_ticks-n.ensures.value c.span_ticks-n.ensures.coarse c.span-span.ensures.value c.height-height.ensures.value)
     (simp to_z-of_z at c.abs_diff.ensures)
     (c.slope.ensures.value ∙ ap (λ (n : ℕ). slope n c.span-span.result) (sym c.span_ticks-n.ensures.coarse))
-    c.min-room.ensures c.skip-skipped.ensures.value c.requires.inside
+    c.min-room.ensures c.skip-skipped.ensures.value c.requires
 
 pub returns : goal.returns
 returns g c =
