@@ -1,5 +1,6 @@
 -- What the search found, as an answer. Assumes nothing.
-use Rattle.std.proofs.Common.{◌≡◌, ℕ, min, Bool, true, List, ℤ, pos, ◌*ℤ◌, Option, unwrap_or, refl, ap, ◌∙◌, subst, arith}
+use Rattle.std.proofs.Common.{sym, ◌≡◌, ℕ, min, Bool, true, List, ℤ, pos, ◌*ℤ◌, Option, unwrap_or, refl, ap, ◌∙◌, subst, arith, w64, SFits, to_z, of_z}
+use Rattle.std.proofs.lemmas.Int.{to_z-of_z}
 use Rattle.crossing.specs.Above.{over, above}
 use Rattle.crossing.specs.Events.{event_number, happens}
 use Rattle.crossing.specs.declared.event.Event.{Event}
@@ -34,10 +35,18 @@ asked_as e what f same = by_case e ∙ ap (λ (w : ℕ). asked w f) same
     by_case Rise = refl
     by_case Set = refl
 
--- the first tick of what was asked for by its number
-pub by_number : (xs : List ℤ) (line : ℤ) (t what : ℕ) (o r : Option ℕ) (n : ℕ) → o ≡ r → FirstAsked xs line t what o n → Taken xs line t what × SaysFirst (asked what (above (almanac_in 1024 xs) line)) t (ticks (almanac_in 1024 xs)) r
-by_number xs line t what o r n is a = (
-  a.taken,
-  subst (SaysFirst (asked what (above (almanac_in 1024 xs) line)) t (ticks (almanac_in 1024 xs))) is
-      (subst (λ (f : ℕ → Bool). SaysFirst f t (ticks (almanac_in 1024 xs)) o) (asked_as a.event what (above (almanac_in 1024 xs) line) a.by_number) a.first),
+-- the first tick of what was asked for by its number, over the line that the code holds as its bits
+pub by_number : {xs : List ℤ} {line : ℤ} {t what n : ℕ} {o : Option ℕ} (r : Option ℕ) → SFits w64 line → o ≡ r → FirstAsked xs (to_z w64 (of_z w64 line)) t what o n → Taken xs line t what × SaysFirst (asked what (above (almanac_in 1024 xs) line)) t (ticks (almanac_in 1024 xs)) r
+by_number {xs} {line} {t} {what} {n} {o} r fits is told =
+    let a : FirstAsked xs line t what o n = subst (λ (z : ℤ). FirstAsked xs z t what o n) (to_z-of_z w64 line fits) told in (
+      a.taken,
+      subst (SaysFirst (asked what (above (almanac_in 1024 xs) line)) t (ticks (almanac_in 1024 xs))) is
+          (subst (λ (f : ℕ → Bool). SaysFirst f t (ticks (almanac_in 1024 xs)) o) (asked_as a.event what (above (almanac_in 1024 xs) line) a.by_number) a.first),
+    )
+
+-- what was found, as it is handed on
+pub handed : (m : Almanac) (line : ℤ) (event : Event) (t : ℕ) (o r : Option ℕ) (k n : ℕ) → r ≡ o → n ≡ k → SaysFirst (happens event (above m line)) t (ticks m) o × CountsFirst m line event t o k → SaysFirst (happens event (above m line)) t (ticks m) r × CountsFirst m line event t r n
+handed m line event t o r k n same count p = (
+  subst (SaysFirst (happens event (above m line)) t (ticks m)) (sym same) p.0,
+  subst (λ (x : ℕ). CountsFirst m line event t r x) (sym count) (subst (λ (x : Option ℕ). CountsFirst m line event t x k) (sym same) p.1),
 )

@@ -1,4 +1,4 @@
-// The entries over lent numbers. Each checks the file first. Those that answer a `When` answer a refusal by its number alone.
+// The entries over lent numbers. Each that is handed a file checks it first. Those that answer a `When` answer a refusal by its number alone.
 ghost use Rattle.std.specs.Prelude.{◌≡◌, ◌+◌, ◌*◌, pos, Ok, Err};
 ghost use Rattle.almanac.specs.Answers.{FirstAsked, FirstSays, HeightSays, SpansSays};
 ghost use Rattle.almanac.specs.Refuses.{Refuses, Taken};
@@ -8,8 +8,8 @@ ghost use Rattle.reading.specs.Readings.{Nears, Sights};
 
 use super::almanac::Almanac;
 use super::ask::First;
-use super::check::{check_line, check_tick};
 use crossing::event::Event;
+use height::line::Line;
 use height::refusal::Refusal;
 use reading::answer::{Near, Sighting};
 
@@ -24,14 +24,15 @@ pub enum When {
 }
 
 // From a tick on, the first one in which a body is above a line (0), rises (1) or sets (2), with how many heights were worked out; or why that is refused.
+// What is asked is a number, as the project fixes it for `first_of` and C hands it in.
 pub fn first_in(spans: &[i32], line: i64, from: u64, what: u64) -> Result<First, Refusal>
     ensures { elim result [ Ok a ↦ FirstAsked spans.now line «from» what a.tick a.evaluations | Err e ↦ Refuses spans.now line «from» what e ] }
 {
     let almanac = Almanac::try_from(spans)?;
-    check_line(line)?;
-    check_tick(from, almanac.ticks())?;
+    let line = Line::try_from(line)?;
+    almanac.at(from)?;
     let event = Event::try_from(what)?;
-    almanac.first(line, event, from)
+    almanac.first_over(line, event, from)
 }
 
 // The same without the count.
@@ -85,7 +86,7 @@ pub fn sighting_of(spans: &[i32], line: i64, tick: u64) -> Result<Sighting, Refu
     Almanac::try_from(spans)?.sighting(line, tick)
 }
 
-// The spans from one up to another, without it, as a slice of the lent numbers; none of them if that is no part of the file, or the file is refused.
+// The spans from one up to another, without it, as a slice of the lent numbers; none of them if that is no part of the file, or the file is refused: a rule of the project, which fixes the slice.
 pub fn spans_of<'a>(spans: &'a [i32], first: u64, end: u64) -> &'a [i32]
     ensures { SpansSays spans.now first «end» result.now }
 {

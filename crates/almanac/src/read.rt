@@ -8,11 +8,9 @@ ghost use Rattle.reading.specs.Readings.{Nears, Sights, above_line};
 ghost use Rattle.std.specs.Prelude.{◌≡◌, ◌^◌, ◌<◌, pos, Ok, Err, unsigned_abs};
 
 use super::almanac::Almanac;
-use super::check::check_tick;
 use height::line::Line;
 use height::meter::Meter;
 use height::refusal::Refusal;
-use height::source::Source;
 use reading::answer::{Near, Sighting};
 use reading::near::near;
 use reading::part::part;
@@ -23,9 +21,7 @@ impl<'a> Almanac<'a> {
     pub fn exact(&self, tick: u64) -> Result<i64, Refusal>
         ensures { elim result [ Ok h ↦ TickTaken (numbers_of self.now) tick × (h ≡ height_at (almanac_in 1024 (numbers_of self.now)) tick) | Err e ↦ Refuses (numbers_of self.now) (pos 0) tick 0 e ] }
     {
-        check_tick(tick, self.ticks())?;
-        let mut meter = Meter::new();
-        Ok(self.view.height(tick, &mut meter))
+        Ok(self.at(tick)?.height(&mut Meter::new()))
     }
 
     // How far the height in a tick is above a line, exact: times 2^30.
@@ -33,16 +29,14 @@ impl<'a> Almanac<'a> {
         ensures { elim result [ Ok h ↦ LineTaken line × TickTaken (numbers_of self.now) tick × (h ≡ above_line (height_at (almanac_in 1024 (numbers_of self.now)) tick) line) × (unsigned_abs h < 2 ^ 59) | Err e ↦ Refuses (numbers_of self.now) line tick 0 e ] }
     {
         let line = Line::try_from(line)?;
-        check_tick(tick, self.ticks())?;
-        Ok(above(&self.view, line, tick))
+        Ok(above(&self.at(tick)?, line))
     }
 
     // The height in a tick as a binary64 number, and how far off that is at most.
     pub fn near(&self, tick: u64) -> Result<Near, Refusal>
         ensures { elim result [ Ok x ↦ TickTaken (numbers_of self.now) tick × Nears (height_at (almanac_in 1024 (numbers_of self.now)) tick) x | Err e ↦ Refuses (numbers_of self.now) (pos 0) tick 0 e ] }
     {
-        check_tick(tick, self.ticks())?;
-        Ok(near(&self.view, tick))
+        Ok(near(&self.at(tick)?))
     }
 
     // Whether the body is seen over a line in a tick, and how high over it.
@@ -50,8 +44,7 @@ impl<'a> Almanac<'a> {
         ensures { elim result [ Ok x ↦ LineTaken line × TickTaken (numbers_of self.now) tick × Sights (height_at (almanac_in 1024 (numbers_of self.now)) tick) line x | Err e ↦ Refuses (numbers_of self.now) line tick 0 e ] }
     {
         let line = Line::try_from(line)?;
-        check_tick(tick, self.ticks())?;
-        Ok(sighting(&self.view, line, tick))
+        Ok(sighting(&self.at(tick)?, line))
     }
 
     // The spans from one up to another, without it, as a slice of the file.

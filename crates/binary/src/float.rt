@@ -36,7 +36,7 @@ fn nearest_u128(n: u128) -> f64
     high as f64 * power(LOW_BITS) + low as f64
 }
 
-// The `f64` nearest to h.
+// The `f64` nearest to h. The bound stands in four contracts: a struct for a number within it would be taken apart by the first line of each.
 fn nearest_i128(h: i128) -> f64
     requires { unsigned_abs h < 2 ^ 80 }
     ensures { result ≡ of_int binary64 h }

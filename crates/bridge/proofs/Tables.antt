@@ -1,5 +1,5 @@
 -- The entries of a table: how they are written as they are found, and that they take turns. Assumes nothing.
-use Rattle.std.proofs.Common.{◌≡◌, ℕ, zero, suc, ◌+◌, ◌-◌, ◌<◌, ◌≤◌, Bool, false, not, ◌≢◌, List, [], ◌∷◌, ◌++◌, length, get_or, set, Option, Some, None, unwrap_or, sym, refl, ap, ◌∙◌, subst, inl, inr, arith, length-append, length-set, get_or-set_other, get_or-set_same}
+use Rattle.std.proofs.Common.{◌≡◌, ℕ, zero, suc, ◌+◌, ◌-◌, ◌<◌, ◌≤◌, Bool, not, ◌≢◌, List, [], ◌∷◌, ◌++◌, length, get_or, set, Option, Some, None, sym, refl, ap, ◌∙◌, subst, inl, inr, arith, length-append, length-set, get_or-set_other, get_or-set_same}
 use Rattle.std.proofs.lemmas.List.{get_or_append_left, get_or_push}
 use Rattle.std.proofs.lemmas.Bool.{cases_eq}
 use Rattle.crossing.specs.declared.event.Crossing.{Crossing}
@@ -8,7 +8,7 @@ use Rattle.crossing.specs.Promise.{Listed}
 use Rattle.search.specs.Walks.{Came, Course, Gives, left}
 use Rattle.search.proofs.Collecting.{came_on, came_to_end, listed_all, listed_on}
 use Rattle.std.specs.Option.{option_or}
-use Rattle.bridge.specs.Tables.{Copied, FilledWith, first_rises, turned}
+use Rattle.bridge.specs.Tables.{Copied, FilledWith, first_kind, first_rises, turned}
 
 -- one more is written behind those that are
 copied_more : (cs : List Crossing) (c : Crossing) (n : ℕ) (into out : List ℕ) → n ≡ length cs → length out ≡ length into → Copied cs into out → Copied (cs ++ (c ∷ [])) into (set out n c.tick)
@@ -24,18 +24,9 @@ copied_more cs c n into out n_is long h = record {
     less : (k : ℕ) → k < length (cs ++ (c ∷ [])) → k ≢ n → k < length cs
     less k lt apart = omega (arith, apart, length-append cs (c ∷ []))
 
--- the kind of the first, if there is one
-abbrev pub first_kind : List Crossing → Option Bool
-first_kind [] = None
-first_kind (c ∷ cs) = Some c.rises
-
 kind_more : (cs : List Crossing) (c : Crossing) → option_or (first_kind cs) (Some c.rises) ≡ first_kind (cs ++ (c ∷ []))
 kind_more [] c = refl
 kind_more (x ∷ cs) c = refl
-
-kind_rises : (cs : List Crossing) → unwrap_or (first_kind cs) false ≡ first_rises cs
-kind_rises [] = refl
-kind_rises (c ∷ cs) = refl
 
 -- what was found and written by a walk that came to tick v by n evaluations
 pub record Filling (m : Course) (t v : ℕ) (into out : List ℕ) (n entries : ℕ) (first : Option Bool) : Type 0 where
@@ -73,10 +64,10 @@ filling_one m t v u n k entries c first after into out more h gives more-is afte
 }
 
 -- at the row's end it has them all
-pub filling_end : (m : Course) (t v u n k entries : ℕ) (first : Option Bool) (into out : List ℕ) → Filling m t v into out n entries first → Gives m v n None u k → FilledWith m t into out (record { entries = entries; rises = unwrap_or first false; evaluations = k })
+pub filling_end : (m : Course) (t v u n k entries : ℕ) (first : Option Bool) (into out : List ℕ) → Filling m t v into out n entries first → Gives m v n None u k → FilledWith m t into out (record { entries = entries; first = first; evaluations = k })
 filling_end m t v u n k entries first into out h gives = record {
   entries = h.count ∙ ap length all;
-  rises = ap (λ (o : Option Bool). unwrap_or o false) h.kind ∙ kind_rises h.found ∙ ap first_rises all;
+  first = h.kind ∙ ap first_kind all;
   written = subst (λ (cs : List Crossing). Copied cs into out) all h.copied;
   steps = came_to_end m t u k gives.next.1 (came_on m t v n u k None h.came gives);
 }

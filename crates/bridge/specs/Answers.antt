@@ -1,16 +1,12 @@
 -- What the exported functions answer. Assumes nothing: these are definitions.
-use Rattle.std.specs.Prelude.{◌≡◌, ℕ, suc, ◌+◌, ◌<◌, ◌≤◌, true, false, ◌⊎◌, List, length, take, drop, ℤ, pos, Some, None, Option}
+use Rattle.std.specs.Prelude.{◌≡◌, ℕ, suc, ◌+◌, ◌<◌, ◌≤◌, true, false, ◌⊎◌, List, length, take, drop, ℤ, pos, negsuc, ◌^◌, cond, nat_lt, Some, None, Option}
 use Rattle.almanac.specs.Answers.{FirstAsked, SpansSays}
 use Rattle.almanac.specs.Refuses.{Refuses, Taken}
 use Rattle.binary.specs.Nearest.{nearest_over}
-use Rattle.crossing.specs.Above.{above}
-use Rattle.crossing.specs.Events.{event_number, happens}
-use Rattle.crossing.specs.declared.event.Event.{Event}
-use Rattle.height.specs.Almanacs.{height_at, rounded, ticks, Meets, AllMeet}
+use Rattle.height.specs.Almanacs.{height_at, rounded, Meets, AllMeet}
 use Rattle.height.specs.Files.{almanac_in, Good, first_beyond}
 use Rattle.height.specs.Refusals.{refusal_number, refusal_place}
 use Rattle.height.specs.declared.refusal.Refusal.{Refusal}
-use Rattle.height.specs.declared.refusal.Refusal.TheVariants.{File, Line, Tick, Asked, Text}
 use Rattle.reading.specs.Readings.{Nears, Sights}
 use Rattle.reading.specs.declared.answer.Sighting.{Sighting}
 use Rattle.reading.specs.declared.answer.Sighting.TheVariants.{Seen, Hidden}
@@ -26,16 +22,13 @@ use Rattle.bridge.specs.declared.answer.SightingAnswer.{SightingAnswer}
 abbrev pub nothing : Refused
 nothing = record { number = 0; place = 0 }
 
--- the place of a refusal of a question about tick t, where that tick is the place if there is no such tick
-abbrev pub place_for : Refusal → ℕ → ℕ
-place_for (File p) t = p
-place_for Line t = 0
-place_for (Tick z) t = t
-place_for (Asked n) t = n
-place_for (Text l) t = l
+-- a refusal's place, and 0 for one below 0 or from 2^64 on
+abbrev pub place_told : ℤ → ℕ
+place_told (pos n) = cond (nat_lt n (2 ^ 64)) n 0
+place_told (negsuc n) = 0
 
-abbrev pub told : Refusal → ℕ → Refused
-told e t = record { number = refusal_number e; place = place_for e t }
+abbrev pub told : Refusal → Refused
+told e = record { number = refusal_number e; place = place_told (refusal_place e) }
 
 -- A question is refused, and these are the refusal's number and place.
 pub record RefusedAs (xs : List ℤ) (line : ℤ) (t what : ℕ) (r : Refused) : Type 0 where

@@ -1,5 +1,5 @@
 -- In how many ticks a body is above a line. Assumes nothing: these are definitions.
-use Rattle.std.specs.Prelude.{◌≡◌, ℕ, zero, suc, Bool, cond, ◌⊎◌, List, ℤ}
+use Rattle.std.specs.Prelude.{◌≡◌, ℕ, zero, suc, ◌+◌, ◌-◌, ◌*◌, Bool, cond, ◌⊎◌, List, ℤ}
 use Rattle.almanac.specs.Refuses.{Taken}
 use Rattle.crossing.specs.Above.{above}
 use Rattle.height.specs.Almanacs.{ticks}
@@ -11,6 +11,10 @@ use Rattle.bridge.specs.Answers.{RefusedAs, nothing}
 unfoldable pub count_to : (f : ℕ → Bool) (n : ℕ) → ℕ
 count_to f zero = 0
 count_to f (suc n) = cond (f n) (suc (count_to f n)) (count_to f n)
+
+-- in how many ticks of span i f is so
+abbrev pub in_span : (f : ℕ → Bool) (i : ℕ) → ℕ
+in_span f i = count_to f (i * 1024 + 1024) - count_to f (i * 1024)
 
 -- The count; or the file or the line is refused, as for a question about tick 0.
 abbrev pub CountSays : (xs : List ℤ) (line : ℤ) → CountAnswer → Type 0

@@ -1,5 +1,5 @@
 -- What the exported table answers and writes. Assumes nothing: these are definitions.
-use Rattle.std.specs.Prelude.{◌≡◌, ℕ, zero, suc, ◌-◌, ◌<◌, ◌≤◌, Bool, false, not, ◌⊎◌, List, [], ◌∷◌, length, ℤ, slice_index, slice_index_or}
+use Rattle.std.specs.Prelude.{◌≡◌, ℕ, zero, suc, ◌-◌, ◌<◌, ◌≤◌, Bool, false, not, ◌⊎◌, Option, Some, None, unwrap_or, List, [], ◌∷◌, length, ℤ, slice_index, slice_index_or}
 use Rattle.almanac.specs.Answers.{ListsCrossings}
 use Rattle.almanac.specs.Refuses.{Taken}
 use Rattle.crossing.specs.Events.{crossings}
@@ -11,9 +11,14 @@ use Rattle.bridge.specs.declared.answer.TableAnswer.{TableAnswer}
 use Rattle.bridge.specs.declared.table.Filled.{Filled}
 use Rattle.bridge.specs.Answers.{RefusedAs, nothing}
 
+-- whether the first of them is a rising, if there is one
+abbrev pub first_kind : List Crossing → Option Bool
+first_kind [] = None
+first_kind (c ∷ cs) = Some c.rises
+
+-- the same as it is handed out: false if there is none
 abbrev pub first_rises : List Crossing → Bool
-first_rises [] = false
-first_rises (c ∷ cs) = c.rises
+first_rises cs = unwrap_or (first_kind cs) false
 
 -- what the k-th of those that take turns is, if the first is w
 abbrev pub turned : Bool → ℕ → Bool
@@ -28,13 +33,13 @@ pub record Copied (cs : List Crossing) (into out : List ℕ) : Type 0 where
 -- all risings and settings of a row from tick t on, and how many ticks its walk evaluates
 pub record FilledWith (m : Course) (t : ℕ) (into out : List ℕ) (r : Filled) : Type 0 where
   pub entries : r.entries ≡ length (crossings m.so t (m.stop - t))
-  pub rises : r.rises ≡ first_rises (crossings m.so t (m.stop - t))
+  pub first : r.first ≡ first_kind (crossings m.so t (m.stop - t))
   pub written : Copied (crossings m.so t (m.stop - t)) into out
   pub steps : Steps m (t - 1) t r.evaluations
 
--- what was filled, as it is handed out
+-- what was filled, as it is handed out: where there is no entry, the first is said to be no rising
 abbrev pub table_told : Filled → TableAnswer
-table_told f = record { refused = nothing; entries = f.entries; rises = f.rises; evaluations = f.evaluations }
+table_told f = record { refused = nothing; entries = f.entries; rises = unwrap_or f.first false; evaluations = f.evaluations }
 
 -- the table of a question that is taken
 pub record TableMade (xs : List ℤ) (line : ℤ) (t end : ℕ) (into out : List ℕ) (r : TableAnswer) : Type 0 where

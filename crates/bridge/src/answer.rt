@@ -8,12 +8,11 @@ use super::highest::Peak;
 use super::refuse::NOTHING;
 use super::table::Filled;
 use almanac::ask::First;
-use binary::nearest;
 use reading::answer::{Near, Sighting};
 
 // The number and the place of a refusal; the number is 0 where nothing is refused, and so is the place.
 #[repr(C)]
-#[derive(Clone, Copy)]
+#[derive(Clone, Copy, Default)]
 pub struct Refused {
     pub number: u64,
     pub place: u64,
@@ -21,7 +20,7 @@ pub struct Refused {
 
 // The first tick, and how many heights were worked out to find it.
 #[repr(C)]
-#[derive(Clone, Copy)]
+#[derive(Clone, Copy, Default)]
 pub struct FirstAnswer {
     pub refused: Refused,
     // Whether there is such a tick; if not, `tick` is 0.
@@ -32,7 +31,7 @@ pub struct FirstAnswer {
 
 // A height in whole thousandths.
 #[repr(C)]
-#[derive(Clone, Copy)]
+#[derive(Clone, Copy, Default)]
 pub struct HeightAnswer {
     pub refused: Refused,
     pub height: i64,
@@ -40,7 +39,7 @@ pub struct HeightAnswer {
 
 // A height as a binary64 number, and how far off it is at most.
 #[repr(C)]
-#[derive(Clone, Copy)]
+#[derive(Clone, Copy, Default)]
 pub struct NearAnswer {
     pub refused: Refused,
     pub height: f64,
@@ -49,7 +48,7 @@ pub struct NearAnswer {
 
 // Whether a body is seen over a line, and how many thousandths above it; 0 where it is hidden.
 #[repr(C)]
-#[derive(Clone, Copy)]
+#[derive(Clone, Copy, Default)]
 pub struct SightingAnswer {
     pub refused: Refused,
     pub seen: bool,
@@ -58,7 +57,7 @@ pub struct SightingAnswer {
 
 // A part of the lent numbers: the index of its first number, and how many it has. Both are 0 where it is empty.
 #[repr(C)]
-#[derive(Clone, Copy)]
+#[derive(Clone, Copy, Default)]
 pub struct Part {
     pub place: u64,
     pub length: u64,
@@ -66,7 +65,7 @@ pub struct Part {
 
 // The first span that does not meet the next one.
 #[repr(C)]
-#[derive(Clone, Copy)]
+#[derive(Clone, Copy, Default)]
 pub struct GapAnswer {
     pub refused: Refused,
     // Whether there is such a span; if not, `span` is 0.
@@ -76,18 +75,18 @@ pub struct GapAnswer {
 
 // How many risings and settings there are, and how many heights were worked out to find them.
 #[repr(C)]
-#[derive(Clone, Copy)]
+#[derive(Clone, Copy, Default)]
 pub struct TableAnswer {
     pub refused: Refused,
     pub entries: u64,
-    // Whether the first entry is a rising. Risings and settings take turns.
+    // Whether the first entry is a rising; false where there is none. Risings and settings take turns.
     pub rises: bool,
     pub evaluations: u64,
 }
 
 // In how many ticks a body is above a line.
 #[repr(C)]
-#[derive(Clone, Copy)]
+#[derive(Clone, Copy, Default)]
 pub struct CountAnswer {
     pub refused: Refused,
     pub ticks: u64,
@@ -95,17 +94,10 @@ pub struct CountAnswer {
 
 // The first of the ticks in which a body is highest.
 #[repr(C)]
-#[derive(Clone, Copy)]
+#[derive(Clone, Copy, Default)]
 pub struct HighestAnswer {
     pub refused: Refused,
     pub tick: u64,
-}
-
-// +0.0.
-fn zero() -> f64
-    ensures { result ≡ nearest_over 30 (pos 0) }
-{
-    nearest::<30>(0)
 }
 
 impl From<Refused> for FirstAnswer {
@@ -114,9 +106,7 @@ impl From<Refused> for FirstAnswer {
     fn from(refused: Refused) -> FirstAnswer {
         FirstAnswer {
             refused,
-            found: false,
-            tick: 0,
-            evaluations: 0,
+            ..FirstAnswer::default()
         }
     }
 }
@@ -138,7 +128,10 @@ impl From<Refused> for HeightAnswer {
     ghost from_gives = { λ e r. r ≡ record { refused = e; height = pos 0 } };
 
     fn from(refused: Refused) -> HeightAnswer {
-        HeightAnswer { refused, height: 0 }
+        HeightAnswer {
+            refused,
+            ..HeightAnswer::default()
+        }
     }
 }
 
@@ -159,8 +152,7 @@ impl From<Refused> for NearAnswer {
     fn from(refused: Refused) -> NearAnswer {
         NearAnswer {
             refused,
-            height: zero(),
-            error: zero(),
+            ..NearAnswer::default()
         }
     }
 }
@@ -183,8 +175,7 @@ impl From<Refused> for SightingAnswer {
     fn from(refused: Refused) -> SightingAnswer {
         SightingAnswer {
             refused,
-            seen: false,
-            above: zero(),
+            ..SightingAnswer::default()
         }
     }
 }
@@ -199,11 +190,7 @@ impl From<Sighting> for SightingAnswer {
                 seen: true,
                 above,
             },
-            Sighting::Hidden => SightingAnswer {
-                refused: NOTHING,
-                seen: false,
-                above: zero(),
-            },
+            Sighting::Hidden => SightingAnswer::default(),
         }
     }
 }
@@ -214,8 +201,7 @@ impl From<Refused> for GapAnswer {
     fn from(refused: Refused) -> GapAnswer {
         GapAnswer {
             refused,
-            found: false,
-            span: 0,
+            ..GapAnswer::default()
         }
     }
 }
@@ -238,9 +224,7 @@ impl From<Refused> for TableAnswer {
     fn from(refused: Refused) -> TableAnswer {
         TableAnswer {
             refused,
-            entries: 0,
-            rises: false,
-            evaluations: 0,
+            ..TableAnswer::default()
         }
     }
 }
@@ -252,7 +236,7 @@ impl From<Filled> for TableAnswer {
         TableAnswer {
             refused: NOTHING,
             entries: filled.entries,
-            rises: filled.rises,
+            rises: filled.first.unwrap_or(false),
             evaluations: filled.evaluations,
         }
     }
@@ -262,7 +246,10 @@ impl From<Refused> for CountAnswer {
     ghost from_gives = { λ e r. r ≡ record { refused = e; ticks = 0 } };
 
     fn from(refused: Refused) -> CountAnswer {
-        CountAnswer { refused, ticks: 0 }
+        CountAnswer {
+            refused,
+            ..CountAnswer::default()
+        }
     }
 }
 
@@ -281,7 +268,10 @@ impl From<Refused> for HighestAnswer {
     ghost from_gives = { λ e r. r ≡ record { refused = e; tick = 0 } };
 
     fn from(refused: Refused) -> HighestAnswer {
-        HighestAnswer { refused, tick: 0 }
+        HighestAnswer {
+            refused,
+            ..HighestAnswer::default()
+        }
     }
 }
 

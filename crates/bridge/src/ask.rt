@@ -6,23 +6,19 @@ ghost use Rattle.height.specs.Files.{Good, almanac_in, first_beyond};
 ghost use Rattle.height.specs.declared.refusal.Refusal.TheVariants.{File};
 
 use super::answer::{FirstAnswer, GapAnswer, HeightAnswer, NearAnswer, Part, SightingAnswer};
-use super::refuse::refused;
+use super::refuse::tell;
 use almanac::entry::{first_in, height_in, near_of, sighting_of, tick_of};
 use height::file::View;
 use height::join::first_gap;
 use height::refusal::Refusal;
 use height::source::Source;
-use height::span::Span;
 
 // From a tick on, the first one in which a body is above a line (0), rises (1) or sets (2).
 #[unsafe(no_mangle)]
 pub extern "C" fn pocketmica_first(spans: &[i32], line: i64, from: u64, what: u64) -> FirstAnswer
     ensures { FirstSays spans.now line «from» what result }
 {
-    match first_in(spans, line, from, what) {
-        Ok(first) => first.into(),
-        Err(refusal) => refused(refusal, from).into(),
-    }
+    tell(first_in(spans, line, from, what))
 }
 
 // The height in a tick, in whole thousandths.
@@ -30,10 +26,7 @@ pub extern "C" fn pocketmica_first(spans: &[i32], line: i64, from: u64, what: u6
 pub extern "C" fn pocketmica_height(spans: &[i32], tick: u64) -> HeightAnswer
     ensures { HeightSays spans.now tick result }
 {
-    match height_in(spans, tick) {
-        Ok(height) => height.into(),
-        Err(refusal) => refused(refusal, tick).into(),
-    }
+    tell(height_in(spans, tick))
 }
 
 // The height in a tick as a binary64 number, and how far off that is at most.
@@ -41,10 +34,7 @@ pub extern "C" fn pocketmica_height(spans: &[i32], tick: u64) -> HeightAnswer
 pub extern "C" fn pocketmica_near(spans: &[i32], tick: u64) -> NearAnswer
     ensures { NearSays spans.now tick result }
 {
-    match near_of(spans, tick) {
-        Ok(near) => near.into(),
-        Err(refusal) => refused(refusal, tick).into(),
-    }
+    tell(near_of(spans, tick))
 }
 
 // Whether a body is seen over a line in a tick, and how high over it.
@@ -52,10 +42,7 @@ pub extern "C" fn pocketmica_near(spans: &[i32], tick: u64) -> NearAnswer
 pub extern "C" fn pocketmica_sighting(spans: &[i32], line: i64, tick: u64) -> SightingAnswer
     ensures { SightingSays spans.now line tick result }
 {
-    match sighting_of(spans, line, tick) {
-        Ok(sighting) => sighting.into(),
-        Err(refusal) => refused(refusal, tick).into(),
-    }
+    tell(sighting_of(spans, line, tick))
 }
 
 // The spans from one up to another, without it, by the place and the number of their numbers.
@@ -68,10 +55,7 @@ pub extern "C" fn pocketmica_spans(spans: &[i32], first: u64, end: u64) -> Part
             place: 4 * first,
             length: 4 * (end - first),
         },
-        _ => Part {
-            place: 0,
-            length: 0,
-        },
+        _ => Part::default(),
     }
 }
 
@@ -87,10 +71,7 @@ fn gap_in(spans: &[i32]) -> Result<Option<u64>, Refusal>
 pub extern "C" fn pocketmica_gap(spans: &[i32]) -> GapAnswer
     ensures { GapSays spans.now result }
 {
-    match gap_in(spans) {
-        Ok(span) => span.into(),
-        Err(refusal) => refused(refusal, 0).into(),
-    }
+    tell(gap_in(spans))
 }
 
 // A tick of the file, from a span and a tick in it.

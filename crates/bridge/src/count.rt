@@ -1,50 +1,37 @@
 // In how many ticks a body is above a line: every tick is gone through, span by span, by three additions each.
-ghost use Rattle.std.specs.Prelude.{◌≡◌, suc, ◌+◌, ◌*◌, ◌/◌, ◌<◌, ◌≤◌, length, if◌then◌else◌, int_le, Ok, Err};
+ghost use Rattle.std.specs.Prelude.{◌≡◌, ◌/◌, ◌<◌, length, Ok, Err};
 ghost use Rattle.almanac.specs.Refuses.{Refuses, Taken};
-ghost use Rattle.bridge.specs.Counts.{CountSays, count_to};
+ghost use Rattle.bridge.specs.Counts.{CountSays, count_to, in_span};
 ghost use Rattle.crossing.specs.Above.{above, over};
 ghost use Rattle.height.specs.Almanacs.{ticks};
 ghost use Rattle.height.specs.Files.{almanac_in};
 ghost use Rattle.height.specs.Views.{almanac_of};
 
 use super::answer::CountAnswer;
-use super::refuse::refused;
+use super::refuse::tell;
 use height::file::View;
 use height::line::Line;
 use height::refusal::Refusal;
 use height::source::Source;
 use reading::stretch::Stretch;
 
-// One more if a height is not below a level.
-fn tally(count: u64, height: i64, level: i64) -> u64
-    requires { count ≤ 4194304 }
-    ensures { result ≡ (if int_le level height then suc count else count) }
+// In how many ticks of a span the height, times 2^30, is not below a level.
+fn ticks_in(view: View, span: u64, level: i64) -> u64
+    requires { span < length view.numbers.now / 4 }
+    ensures { result ≡ in_span (over (almanac_of view.entry) level) span }
 {
-    if height >= level { count + 1 } else { count }
-}
-
-// The count of the ticks before a span, carried on through the span.
-fn carry(view: View, span: u64, level: i64, before: u64) -> u64
-    requires inside { span < length view.numbers.now / 4 }
-    requires counted { before ≡ count_to (over (almanac_of view) level) (span * 1024) }
-    ensures { result ≡ count_to (over (almanac_of view.entry) level) (span * 1024 + 1024) }
-{
-    let mut count = before;
-    for moment in Stretch::new(view, span) {
-        count = tally(count, moment.height, level);
-    }
-    count
+    Stretch::new(view, span)
+        .map(|moment| u64::from(moment.height >= level))
+        .sum()
 }
 
 // In how many ticks of a file the height, times 2^30, is not below a level.
 fn ticks_over(view: View, level: i64) -> u64
     ensures { result ≡ count_to (over (almanac_of view.entry) level) (ticks (almanac_of view.entry)) }
 {
-    let mut count = 0;
-    for span in 0..view.spans() {
-        count = carry(view, span, level, count);
-    }
-    count
+    (0..view.spans())
+        .map(|span| ticks_in(view, span, level))
+        .sum()
 }
 
 // In how many ticks a body is above a line, or why that is refused.
@@ -61,8 +48,5 @@ fn count_in(spans: &[i32], line: i64) -> Result<u64, Refusal>
 pub extern "C" fn pocketmica_count(spans: &[i32], line: i64) -> CountAnswer
     ensures { CountSays spans.now line result }
 {
-    match count_in(spans, line) {
-        Ok(ticks) => ticks.into(),
-        Err(refusal) => refused(refusal, 0).into(),
-    }
+    tell(count_in(spans, line))
 }

@@ -7,14 +7,14 @@ ghost use Rattle.height.specs.declared.refusal.Refusal.TheVariants.{File};
 ghost use Rattle.std.specs.Prelude.{◌≡◌, ◌≤ℤ◌, ◌<ℤ◌, Ok, Err};
 
 use super::answer::HighestAnswer;
-use super::refuse::refused;
+use super::refuse::tell;
 use height::file::View;
 use height::meter::Meter;
 use height::refusal::Refusal;
 use height::source::Source;
 use reading::cursor::Cursor;
 
-// A tick, and the height in it, times 2^30.
+// A tick, and the height in it, times 2^30: what of a cursor's moment is compared.
 #[derive(Clone, Copy)]
 pub struct Peak {
     pub tick: u64,
@@ -37,10 +37,9 @@ fn higher(peak: Peak, tick: u64, height: i64) -> Peak
 fn start_of(view: View) -> Peak
     ensures { Peaked (almanac_of view.entry) 0 result }
 {
-    let mut meter = Meter::new();
     Peak {
         tick: 0,
-        height: view.height(0, &mut meter),
+        height: view.height(0, &mut Meter::new()),
     }
 }
 
@@ -67,8 +66,5 @@ fn highest_in(spans: &[i32]) -> Result<Peak, Refusal>
 pub extern "C" fn pocketmica_highest(spans: &[i32]) -> HighestAnswer
     ensures { HighestSays spans.now result }
 {
-    match highest_in(spans) {
-        Ok(peak) => peak.into(),
-        Err(refusal) => refused(refusal, 0).into(),
-    }
+    tell(highest_in(spans))
 }

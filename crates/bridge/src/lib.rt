@@ -1,5 +1,6 @@
-// The almanac for callers in other languages: exported functions over lent numbers. Each checks the file first, and asks nothing of its caller.
-// A refusal comes with its number and its place in every answer; the number 0 says that nothing was refused.
+// The almanac for callers in other languages: exported functions over lent numbers, which ask nothing of their callers.
+// Each that is lent a file checks it first. What it answers has the number and the place of a refusal; the number 0 says that nothing was refused.
+// Only a Part has no such number: it is empty where the file or the spans are not taken. A tick from a span and a tick in it needs no file, and is never refused.
 //
 //   answer   what is handed out
 //   refuse   a refusal as two numbers

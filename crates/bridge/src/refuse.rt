@@ -1,6 +1,6 @@
 // A refusal as two numbers.
 ghost use Rattle.bridge.specs.Answers.{CheckSays, told};
-ghost use Rattle.std.specs.Prelude.{◌≡◌};
+ghost use Rattle.std.specs.Prelude.{◌≡◌, Ok, Err};
 
 use super::answer::Refused;
 use height::refusal::Refusal;
@@ -12,20 +12,25 @@ pub const NOTHING: Refused = Refused {
     place: 0,
 };
 
-// The refusal of a question about a tick.
-pub fn refused(refusal: Refusal, tick: u64) -> Refused
-    ensures { result ≡ told refusal tick }
+// A place that is no u64 is handed out as 0; no exported function refuses at one.
+impl From<Refusal> for Refused {
+    ghost from_gives = { λ e r. r ≡ told e };
+
+    fn from(refusal: Refusal) -> Refused {
+        Refused {
+            number: refusal.number(),
+            place: u64::try_from(refusal.place()).unwrap_or(0),
+        }
+    }
+}
+
+// The answer that is handed out: what was found, or why that is refused.
+pub(super) fn tell<T, A: From<T> + From<Refused>>(asked: Result<T, Refusal>) -> A
+    ensures { elim asked [ Ok v ↦ ⟦<A as From<T>>⟧.from_gives v result | Err e ↦ ⟦<A as From<Refused>>⟧.from_gives (told e) result ] }
 {
-    let place = match refusal {
-        Refusal::File(place) => place,
-        Refusal::Line => 0,
-        Refusal::Tick(_) => tick,
-        Refusal::Asked(number) => number,
-        Refusal::Text(line) => line,
-    };
-    Refused {
-        number: refusal.number(),
-        place,
+    match asked {
+        Ok(value) => value.into(),
+        Err(refusal) => Refused::from(refusal).into(),
     }
 }
 
@@ -36,6 +41,6 @@ pub extern "C" fn pocketmica_check(spans: &[i32]) -> Refused
 {
     match check(spans) {
         Ok(()) => NOTHING,
-        Err(refusal) => refused(refusal, 0),
+        Err(refusal) => refusal.into(),
     }
 }

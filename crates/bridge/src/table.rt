@@ -4,9 +4,9 @@ ghost use Rattle.bridge.specs.Tables.{FilledWith, TableMade, TableSays, table_to
 ghost use Rattle.std.specs.Prelude.{◌≡◌, Ok, Err, slice_set};
 
 use super::answer::TableAnswer;
-use super::refuse::refused;
-use almanac::check::check_tick;
+use super::refuse::tell;
 use crossing::theorems::listing_is_whole;
+use height::at::At;
 use height::file::View;
 use height::line::Line;
 use height::refusal::Refusal;
@@ -15,15 +15,15 @@ use search::signal::Signal;
 use search::walk::Crossings;
 use sight::sight::Sight;
 
-// How many risings and settings there are, whether the first is a rising, and how many ticks were evaluated.
+// How many risings and settings there are, whether the first of them is a rising, and how many ticks were evaluated.
 #[derive(Clone, Copy)]
 pub struct Filled {
     pub entries: u64,
-    pub rises: bool,
+    pub first: Option<bool>,
     pub evaluations: u64,
 }
 
-// Writes a tick at an index, if there is room.
+// Writes a tick at an index, if there is room. A slice's `get_mut` was tried, and tells a proof only the length.
 fn put(into: &mut [u64], at: u64, tick: u64)
     ensures { into.new ≡ slice_set into.old at tick }
 {
@@ -40,7 +40,7 @@ pub fn fill<S: Signal>(signal: &S, from: u64, into: &mut [u64]) -> Filled
     let mut walk = Crossings::new(signal, from);
     let mut entries = 0;
     let mut first = None;
-    // A `for` over `walk.by_ref()` tells a proof nothing of `walk` behind it.
+    // A `for` over `walk.by_ref()` was tried: `walk` is lent to it, so no proof knows the evaluations behind it.
     while let Some(crossing) = walk.next() {
         put(into, entries, crossing.tick);
         first = first.or(Some(crossing.rises));
@@ -48,7 +48,7 @@ pub fn fill<S: Signal>(signal: &S, from: u64, into: &mut [u64]) -> Filled
     }
     Filled {
         entries,
-        rises: first.unwrap_or(false),
+        first,
         evaluations: walk.evaluations(),
     }
 }
@@ -65,7 +65,7 @@ fn table_in(
 {
     let view = View::try_from(spans)?;
     let line = Line::try_from(line)?;
-    check_tick(from, view.ticks())?;
+    At::new(&view, from)?;
     listing_is_whole();
     let sight = Sight::new(view, line.level(), end);
     Ok(fill(&sight, from, into))
@@ -83,8 +83,5 @@ pub extern "C" fn pocketmica_table(
 ) -> TableAnswer
     ensures { TableSays spans.now line «from» «end» into.old into.new result }
 {
-    match table_in(spans, line, from, end, into) {
-        Ok(filled) => filled.into(),
-        Err(refusal) => refused(refusal, from).into(),
-    }
+    tell(table_in(spans, line, from, end, into))
 }

@@ -1,11 +1,12 @@
 -- The listing of risings and settings. Assumes nothing.
 use Rattle.std.proofs.Common.{◌≡◌, ℕ, zero, suc, ◌+◌, ◌<◌, ◌≤◌, Bool, true, false, cond, not, ◌⊎◌, List, [], ◌∷◌, ◌++◌, length, get_or, sym, refl, ap, ◌∙◌, subst, ap₂, inl, inr, add-zero, add-suc, suc-add, zero-add, arith}
+use Rattle.std.proofs.Math.Bool.{not-not}
 use Rattle.std.proofs.lemmas.Bool.{cases_Bool, cases_lt, cond-true, cond-false, both_ways}
 use Rattle.crossing.specs.declared.event.Crossing.{Crossing}
 use Rattle.crossing.specs.Above.{rises, sets, becomes}
 use Rattle.crossing.specs.Events.{crossings}
 use Rattle.crossing.specs.Promise.{Lists, Listed}
-use Rattle.crossing.proofs.Turns.{became, becomes_here, in_turn, not_at_first, not_from, not_to}
+use Rattle.crossing.proofs.Turns.{became, becomes_here, clash, in_turn, not_at_first, not_from, not_to}
 
 abbrev crossing : ℕ → Bool → Crossing
 crossing t w = record { tick = t; rises = w }
@@ -42,10 +43,6 @@ lists_cons f t k w cs h rest = record { sound = sound; whole = whole; order = or
         let q = rest.whole (not w) p.0 p.1 (omega (arith, p.2, s.1)) p.3 in
         first d q.0 q.1 p.0 p.2 (q.2 d) (e ∙ same)
       where
-        clash : (w : Bool) → w ≡ not w → ⊥
-        clash true e = let z : ◌≡◌ {A = ℕ} 0 1 = cc in omega arith
-        clash false e = let z : ◌≡◌ {A = ℕ} 0 1 = cc in omega arith
-
         first : (d : Crossing) (i : ℕ) → i < length cs → (v : ℕ) → v < (get_or cs 0 d).tick → get_or cs i d ≡ crossing v (not w) → (get_or cs 0 d).rises ≡ w → ⊥
         first d zero l v lt q r = clash w (sym r ∙ ap (λ (c : Crossing). c.rises) q)
         first d (suc i) l v lt q r = omega (arith, rest.order 0 (suc i) d (omega arith) l, ap (λ (c : Crossing). c.tick) q)
@@ -157,13 +154,9 @@ crossings_turn f b t j k was stays turned =
     let here : f (suc (t + j)) ≡ not b = turned (suc (t + j)) (omega arith) (omega arith) in
     let e : suc (t + j) ≡ suc t + j = omega arith in
     crossings_add f (suc t) j (suc k) ∙ ap (λ (l : List Crossing). l ++ crossings f v (suc k)) (crossings_none f b t j was stays)
-    ∙ crossings_one f v k (not b) (subst (λ (n : ℕ). becomes (not b) f n ≡ true) e (becomes_here (not b) f (t + j) here (last ∙ twice b)))
+    ∙ crossings_one f v k (not b) (subst (λ (n : ℕ). becomes (not b) f n ≡ true) e (becomes_here (not b) f (t + j) here (last ∙ sym (not-not b))))
     ∙ ap (λ (l : List Crossing). crossing v (not b) ∷ l) (crossings_none f (not b) v k (turned v (omega arith) (omega arith)) (λ u p q. turned u (omega arith) (omega arith)))
   where
-    twice : (b : Bool) → b ≡ not (not b)
-    twice true = refl
-    twice false = refl
-
     before : (j : ℕ) → ((u : ℕ) → suc t ≤ u → u < suc t + j → f u ≡ b) → f (t + j) ≡ b
     before zero stays = ap f (add-zero t) ∙ was
     before (suc j) stays = stays (t + suc j) (omega arith) (omega arith)

@@ -1,6 +1,7 @@
 -- Risings and settings take turns. Assumes nothing.
 use Rattle.std.proofs.Common.{◌≡◌, ℕ, zero, suc, ◌+◌, ◌-◌, ◌<◌, Bool, true, false, not, ◌&&◌, ◌⊎◌, sym, refl, ap, ◌∙◌, ap₂, inl, inr, add-zero, add-suc, arith}
-use Rattle.std.proofs.lemmas.Bool.{and_parts, and_left, and_right, not-true}
+use Rattle.std.proofs.Math.Bool.{not-not}
+use Rattle.std.proofs.lemmas.Bool.{and_parts, and_left, and_right, not-true, false≢true, true≢false}
 use Rattle.crossing.specs.Above.{rises, sets, becomes}
 use Rattle.crossing.specs.Promise.{InTurn}
 
@@ -13,28 +14,19 @@ becomes_here false f t p q = ap₂ (λ (x y : Bool). not x && y) p q
 abbrev pub Became : (w : Bool) (f : ℕ → Bool) (t : ℕ) → Type 0
 Became w f t = (0 < t) × (f t ≡ w) × (f (t - 1) ≡ not w)
 
+before : (t : ℕ) → suc t - 1 ≡ t
+before t = omega arith
+
 pub became : (w : Bool) (f : ℕ → Bool) (t : ℕ) → becomes w f t ≡ true → Became w f t
 unfolding rises sets
-became true f zero h = absurd (clash h)
-  where
-    clash : false ≡ true → ⊥
-    clash e = let z : ◌≡◌ {A = ℕ} 0 1 = cc in omega arith
-became false f zero h = absurd (clash h)
-  where
-    clash : false ≡ true → ⊥
-    clash e = let z : ◌≡◌ {A = ℕ} 0 1 = cc in omega arith
+became true f zero h = absurd (false≢true h)
+became false f zero h = absurd (false≢true h)
 became true f (suc t) h =
     let p = and_parts (f (suc t)) (not (f t)) h in
-    (omega arith, p.0, ap f (pred t) ∙ not-true (f t) p.1)
-  where
-    pred : (t : ℕ) → suc t - 1 ≡ t
-    pred t = omega arith
+    (omega arith, p.0, ap f (before t) ∙ not-true (f t) p.1)
 became false f (suc t) h =
     let p = and_parts (not (f (suc t))) (f t) h in
-    (omega arith, not-true (f (suc t)) p.0, ap f (pred t) ∙ p.1)
-  where
-    pred : (t : ℕ) → suc t - 1 ≡ t
-    pred t = omega arith
+    (omega arith, not-true (f (suc t)) p.0, ap f (before t) ∙ p.1)
 
 -- it does not become so where it was so, nor where it is not
 pub not_from : (w : Bool) (f : ℕ → Bool) (t : ℕ) → f t ≡ w → becomes w f (suc t) ≡ false
@@ -52,19 +44,16 @@ unfolding rises sets
 not_at_first true f = refl
 not_at_first false f = refl
 
+-- nothing is its own contrary
+pub clash : (w : Bool) → w ≡ not w → ⊥
+clash true e = true≢false e
+clash false e = false≢true e
+
 -- what is so in one tick and not so later becomes not so in between
 pub turn_between : (f : ℕ → Bool) (w : Bool) (t k : ℕ) → f t ≡ w → f (t + k) ≡ not w → (v : ℕ) × (t < v) × (v < suc (t + k)) × (becomes (not w) f v ≡ true)
 turn_between f w t zero p q = absurd (clash w (sym p ∙ ap f (sym (add-zero t)) ∙ q))
-  where
-    clash : (w : Bool) → w ≡ not w → ⊥
-    clash true e = let z : ◌≡◌ {A = ℕ} 0 1 = cc in omega arith
-    clash false e = let z : ◌≡◌ {A = ℕ} 0 1 = cc in omega arith
 turn_between f w t (suc k) p q = at (turn_between f w t k p) (f (t + k)) refl
   where
-    twice : (w : Bool) → w ≡ not (not w)
-    twice true = refl
-    twice false = refl
-
     same : (x w : Bool) → (x ≡ w) ⊎ (x ≡ not w)
     same true true = inl refl
     same true false = inr refl
@@ -74,7 +63,7 @@ turn_between f w t (suc k) p q = at (turn_between f w t k p) (f (t + k)) refl
     at : (f (t + k) ≡ not w → (v : ℕ) × (t < v) × (v < suc (t + k)) × (becomes (not w) f v ≡ true)) → (x : Bool) → f (t + k) ≡ x → (v : ℕ) × (t < v) × (v < suc (t + suc k)) × (becomes (not w) f v ≡ true)
     at sooner x e =
         elim (same x w) [
-          | inl h ↦ (suc (t + k), omega arith, omega arith, becomes_here (not w) f (t + k) (ap f (sym (add-suc t k)) ∙ q) (e ∙ h ∙ twice w))
+          | inl h ↦ (suc (t + k), omega arith, omega arith, becomes_here (not w) f (t + k) (ap f (sym (add-suc t k)) ∙ q) (e ∙ h ∙ sym (not-not w)))
           | inr h ↦ (let r = sooner (e ∙ h) in (r.0, r.1, omega (arith, r.2), r.3))
         ]
 

@@ -60,7 +60,7 @@ impl fmt::Display for Event {
 #[derive(Clone, Copy, PartialEq, Eq, Debug)]
 pub struct Crossing {
     pub tick: u64,
-    // A rising; else it is a setting.
+    // A rising; else it is a setting. It is the value that the condition takes, the same that a search looks for, and no kind with a number.
     pub rises: bool,
 }
 

@@ -26,7 +26,7 @@ fn put_figures<W: Write>(f: &mut Formatter<W>, part: u128, places: u32) -> fmt::
     Ok(())
 }
 
-// size / 2^places: the whole part, and, if there is a rest, a point and the figures behind it.
+// size / 2^places: the whole part, and, if there is a rest, a point and the figures behind it. A struct for the pair would be made and taken apart once in each of the three functions.
 pub(crate) fn put_fraction<W: Write>(f: &mut Formatter<W>, size: u128, places: u32) -> fmt::Result
     requires { (places ≤ 125) × (size / 2 ^ places < 2 ^ 64) }
     ensures { WritesOnOk W.write_str_gives f.old result (part_text places size) f.new }

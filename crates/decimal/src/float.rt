@@ -24,7 +24,7 @@ impl<const PLACES: u32> Display for Nearest<PLACES> {
     }
 }
 
-// Half of what the last place of an `f64` as large as numerator / 2^PLACES is worth.
+// Half of what the last place of an `f64` as large as numerator / 2^PLACES is worth. A type of its own, since a type has one text.
 #[derive(Clone, Copy)]
 pub struct HalfPlace<const PLACES: u32> {
     pub numerator: i128,

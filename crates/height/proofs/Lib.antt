@@ -1,5 +1,6 @@
 pub mod Bridges
 pub mod Examples
+pub mod Fours
 pub mod Joins
 pub mod Places
 pub mod Rounds

@@ -10,7 +10,7 @@ pub cube_le : (u : ℕ) → u < 1024 → u * (u * u) ≤ 1070599167
 cube_le u h = mul-le-mul {n₂ = 1023} {m₂ = 1046529} (omega arith) (square_le u h)
 
 -- a number of size at most 2^25 comes back from its bits
-same : (x : ℤ) → nat_abs x ≤ 2 ^ 25 → to_z w32 (of_z w32 x) ≡ x
+pub same : (x : ℤ) → nat_abs x ≤ 2 ^ 25 → to_z w32 (of_z w32 x) ≡ x
 same x h = omega (arith, ints)
 
 -- a product is the number's own, and of size at most 2^55

@@ -30,7 +30,7 @@ impl Line {
     }
 }
 
-// The line at 0.
+// The line at 0. A derive is refused over a ghost field.
 impl Default for Line {
     ghost is_default = { λ line. line.thousandths ≡ pos 0 };
 

@@ -1,5 +1,5 @@
 // Whatever has spans: a checked file, and later what is made of files. Its ticks and heights are worked out here, once for all of them.
-ghost use Rattle.std.specs.Prelude.{◌≡◌, suc, ◌*◌, ◌^◌, ◌<◌, ◌≤◌, unsigned_abs};
+ghost use Rattle.std.specs.Prelude.{◌≡◌, ◌*◌, ◌^◌, ◌<◌, ◌≤◌, unsigned_abs};
 ghost use Rattle.height.specs.Almanacs.{Almanac, height_at, ticks as ticks_of};
 ghost use Rattle.height.specs.Meters.{raised};
 ghost use Rattle.height.specs.Spans.{Within};
@@ -63,13 +63,8 @@ impl Source for View<'_> {
     }
 
     fn span(&self, at: u64) -> Span {
-        let k = Span::NUMBERS * at as usize;
-        let xs = self.numbers;
-        Span {
-            a: xs[k],
-            b: xs[k + 1],
-            c: xs[k + 2],
-            d: xs[k + 3],
-        }
+        let (spans, _) = self.numbers.as_chunks::<4>();
+        let [a, b, c, d] = spans[at as usize];
+        Span { a, b, c, d }
     }
 }

@@ -66,6 +66,7 @@ fn feed_all<B: BufRead>(
 ) -> Result<(), Stop> {
     let heap = rt.alloc();
     let mut stdout = rt.stdout();
+    // the language's form for a loop that reads until its input ends
     for _ in 0..u64::MAX {
         if session.has_ended() {
             break;
@@ -129,13 +130,7 @@ fn run(rt: &HostRuntime, names: &[String]) -> Result<(), Stop> {
 
 // What is named: the arguments without the program's own name.
 fn arguments(rt: &HostRuntime) -> io::Result<Vec<String>> {
-    let mut names = Vec::new(rt.alloc());
-    let mut args = env::args(rt)?;
-    let _ = args.next();
-    for arg in args {
-        names.push(arg)?;
-    }
-    Ok(names)
+    Ok(env::args(rt)?.skip(1).collect(rt.alloc())?)
 }
 
 // Answers what is asked for; each reason not to has been said where it belongs.

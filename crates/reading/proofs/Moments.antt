@@ -10,16 +10,6 @@ use Rattle.height.proofs.Ticks.{height_in_span}
 use Rattle.reading.specs.declared.answer.Moment.{Moment}
 use Rattle.reading.specs.Cursors.{moment, in_turn}
 
--- the numbers of a span of the file are small
-pub small : (xs : List ℤ) (i : ℕ) → i < length xs / 4 → ((k : ℕ) → k < length xs → nat_abs (get_or xs k (pos 0)) ≤ 2 ^ 24) → Within (2 ^ 25) (span_at xs i)
-small xs i h each =
-    record {
-      a = omega (arith, each (4 * i) (omega arith));
-      b = omega (arith, each (4 * i + 1) (omega arith));
-      c = omega (arith, each (4 * i + 2) (omega arith));
-      d = omega (arith, each (4 * i + 3) (omega arith));
-    }
-
 -- tick u of span i, as it is worked out
 pub moment_is : (m : Almanac) (i u t : ℕ) (x : ℤ) → u < m.fine → t ≡ i * m.fine + u → x ≡ height m.fine (m.span i) u → ◌≡◌ {A = Moment} (record { tick = t; height = x; first = eqb u 0 }) (moment m (i * m.fine + u))
 moment_is m i u t x h t-is x-is =

@@ -30,8 +30,7 @@ impl Differences {
         let bend = times(span.c, 2048);
         let turn = times(span.d, 6 * (u + 1));
         let third = times(span.d, 6);
-        let mut meter = Meter::new();
-        let height = span.height(tick, &mut meter);
+        let height = span.height(tick, &mut Meter::new());
         Differences {
             height,
             first: b + c + d,

@@ -2,23 +2,22 @@
 ghost use Rattle.std.specs.Prelude.{◌≡◌, ◌^◌, ◌<◌, pos, ◌≤ℤ◌, unsigned_abs};
 ghost use Rattle.binary.specs.Nearest.{nearest_over};
 ghost use Rattle.binary.specs.Promise.{Plain};
-ghost use Rattle.height.specs.Almanacs.{height_at, ticks as ticks_of};
+ghost use Rattle.height.specs.Almanacs.{height_at};
 ghost use Rattle.reading.specs.Readings.{Sights, above_line};
 
 use super::answer::Sighting;
 use binary::nearest;
+use height::at::At;
 use height::line::Line;
 use height::meter::Meter;
 use height::source::Source;
 
 // How far the height in a tick is above a line, times 2^30.
-pub fn above<S: Source>(source: &S, line: Line, tick: u64) -> i64
-    requires { tick < ticks_of (S.almanac source.now) }
-    ensures value { result ≡ above_line (height_at (S.almanac source.now) tick) line.thousandths }
+pub fn above<S: Source>(at: &At<S>, line: Line) -> i64
+    ensures value { result ≡ above_line (height_at (S.almanac at.now.source.now) at.now.tick) line.thousandths }
     ensures size { unsigned_abs result < 2 ^ 59 }
 {
-    let mut meter = Meter::new();
-    source.height(tick, &mut meter) - line.level()
+    at.height(&mut Meter::new()) - line.level()
 }
 
 // The nearest binary64 number to how far a body is above a line.
@@ -31,11 +30,10 @@ fn nearest_above(above: i64) -> f64
 }
 
 // Whether a body is seen over a line in a tick, and how high over it. On the line it is seen, at +0.0.
-pub fn sighting<S: Source>(source: &S, line: Line, tick: u64) -> Sighting
-    requires { tick < ticks_of (S.almanac source.now) }
-    ensures { Sights (height_at (S.almanac source.now) tick) line.thousandths result }
+pub fn sighting<S: Source>(at: &At<S>, line: Line) -> Sighting
+    ensures { Sights (height_at (S.almanac at.now.source.now) at.now.tick) line.thousandths result }
 {
-    let above = above(source, line, tick);
+    let above = above(at, line);
     let seen = above >= 0;
     if seen {
         Sighting::Seen(nearest_above(above))

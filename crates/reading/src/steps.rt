@@ -9,13 +9,14 @@ ghost use Rattle.std.specs.Iterator.{at_most};
 use super::answer::Moment;
 use super::cursor::Cursor;
 use super::differences::Differences;
+use height::at::At;
 use height::file::View;
 use height::refusal::Refusal;
 use height::source::Source;
 use height::span::Span;
 
 impl<'a> Cursor<'a> {
-    // A cursor that stands before a tick of a span.
+    // A cursor that stands before a tick of a span. A loop over spans knows from its range that there is such a span, so no type carries it.
     pub(super) fn before(view: View<'a>, span: u64, at: u64) -> Cursor<'a>
         requires inside { span < length view.numbers.now / 4 }
         requires short { at < 1024 }
@@ -51,10 +52,9 @@ impl<'a> Cursor<'a> {
     pub fn set(&mut self, tick: u64) -> Result<(), Refusal>
         ensures { elim result [ Ok _ ↦ (tick < ticks_of (almanac_of self.old.view)) × Stands self.old tick self.new | Err e ↦ (tick < ticks_of (almanac_of self.old.view) → ⊥) × (e ≡ Tick (pos tick)) × Stands self.old (tick_of self.old) self.new ] }
     {
-        if tick >= self.view.ticks() {
-            return Err(Refusal::Tick(tick as i128));
-        }
-        *self = Cursor::before(self.view, tick / Span::TICKS, tick % Span::TICKS);
+        let view = self.view;
+        let tick = At::new(&view, tick)?.tick;
+        *self = Cursor::before(view, tick / Span::TICKS, tick % Span::TICKS);
         Ok(())
     }
 

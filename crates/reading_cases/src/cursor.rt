@@ -46,31 +46,29 @@ fn longest(heap: Global) -> Result<Vec<i32>, AllocError> {
 // What was given is the tick that comes next, with the height that is worked out for it.
 fn check_moment(rt: &impl Abort, view: View, moment: Moment, tick: u64) {
     assert!(rt; moment.tick == tick && tick < view.ticks());
-    let mut meter = Meter::new();
-    assert_eq!(rt; moment.height, view.height(tick, &mut meter));
+    assert_eq!(rt; moment.height, view.height(tick, &mut Meter::new()));
     assert_eq!(rt; moment.first, tick % Span::TICKS == 0);
 }
 
 // Goes through a file tick by tick.
 fn check_ticks(rt: &impl Abort, view: View) {
-    let mut tick: u64 = 0;
-    for moment in Cursor::new(view) {
-        check_moment(rt, view, moment, tick);
-        tick = tick.wrapping_add(1);
+    for (tick, moment) in Cursor::new(view).enumerate() {
+        check_moment(rt, view, moment, tick as u64);
     }
-    assert_eq!(rt; tick, view.ticks());
+    assert_eq!(rt; Cursor::new(view).count() as u64, view.ticks());
 }
 
 // Goes through a file span by span.
 fn check_spans(rt: &impl Abort, view: View) {
-    let mut tick: u64 = 0;
     for span in 0..view.spans() {
-        for moment in Stretch::new(view, span) {
+        let before = Span::TICKS * span;
+        let ticks = before..before + Span::TICKS;
+        for (tick, moment) in ticks.zip(Stretch::new(view, span)) {
             check_moment(rt, view, moment, tick);
-            tick = tick.wrapping_add(1);
         }
+        assert_eq!(rt; Stretch::new(view, span).count() as u64, Span::TICKS);
     }
-    assert_eq!(rt; tick, view.ticks());
+    assert_eq!(rt; Span::TICKS * view.spans(), view.ticks());
 }
 
 fn check_through(rt: &impl Abort, numbers: &[i32]) -> Result<(), Fail> {

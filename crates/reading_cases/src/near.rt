@@ -1,9 +1,10 @@
 // Heights as binary64 numbers, by their bits.
 use super::three::THREE;
+use height::at::At;
 use height::file::View;
 use height::meter::Meter;
+use height::refusal::Refusal;
 use height::round::rounded;
-use height::source::Source;
 use reading::near::near;
 use std::num::f64_to_bits_with_nan;
 use std::process::Abort;
@@ -179,34 +180,40 @@ static ROWS: [(u64, i64, u64, u64); 6] = [
 ];
 
 // The height in a tick has these bits, and its error those.
-fn check_near(rt: &impl Abort, view: View, tick: u64, height: u64, error: u64) {
-    assert!(rt; tick < view.ticks());
-    let near = near(&view, tick);
+fn check_near(
+    rt: &impl Abort,
+    view: View,
+    tick: u64,
+    height: u64,
+    error: u64,
+) -> Result<(), Refusal> {
+    let near = near(&At::new(&view, tick)?);
     assert_eq!(rt; f64_to_bits_with_nan(near.height), height);
     assert_eq!(rt; f64_to_bits_with_nan(near.error), error);
+    Ok(())
 }
 
 #[test]
 fn heights_are_nearest(rt: HostRuntime) -> Result<(), Fail> {
     for (span, tick, height, error) in CASES.iter() {
-        check_near(&rt, View::try_from(&span[..])?, *tick, *height, *error);
+        check_near(&rt, View::try_from(&span[..])?, *tick, *height, *error)?;
     }
     Ok(())
 }
 
 // The height in a tick is so many whole thousandths.
-fn check_rounded(rt: &impl Abort, view: View, tick: u64, thousandths: i64) {
-    assert!(rt; tick < view.ticks());
-    let mut meter = Meter::new();
-    assert_eq!(rt; rounded(view.height(tick, &mut meter)), thousandths);
+fn check_rounded(rt: &impl Abort, view: View, tick: u64, thousandths: i64) -> Result<(), Refusal> {
+    let at = At::new(&view, tick)?;
+    assert_eq!(rt; rounded(at.height(&mut Meter::new())), thousandths);
+    Ok(())
 }
 
 #[test]
 fn three_spans_have_these_heights(rt: HostRuntime) -> Result<(), Fail> {
     let view = View::try_from(&THREE[..])?;
     for (tick, thousandths, height, error) in ROWS.iter() {
-        check_rounded(&rt, view, *tick, *thousandths);
-        check_near(&rt, view, *tick, *height, *error);
+        check_rounded(&rt, view, *tick, *thousandths)?;
+        check_near(&rt, view, *tick, *height, *error)?;
     }
     Ok(())
 }

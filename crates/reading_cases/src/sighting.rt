@@ -1,7 +1,7 @@
 // A body seen over a line, by the bits of how far it is above, or hidden.
+use height::at::At;
 use height::file::View;
 use height::line::Line;
-use height::source::Source;
 use reading::answer::Sighting;
 use reading::sighting::sighting;
 use std::num::f64_to_bits_with_nan;
@@ -72,8 +72,8 @@ fn bodies_are_seen_or_hidden(rt: HostRuntime) -> Result<(), Fail> {
     for (span, line, tick, above) in CASES.iter() {
         let view = View::try_from(&span[..])?;
         let line = Line::try_from(*line)?;
-        assert!(rt; *tick < view.ticks());
-        assert_eq!(rt; bits(sighting(&view, line, *tick)), *above);
+        let at = At::new(&view, *tick)?;
+        assert_eq!(rt; bits(sighting(&at, line)), *above);
     }
     Ok(())
 }

@@ -4,6 +4,7 @@ use lib.Seq.{take-append_seam, drop-append_seam}
 use Rattle.std.specs.Fmt.{signed_decimal}
 use Rattle.std.specs.Str.{bytes_eq}
 use Rattle.std.proofs.lemmas.Slice.Eq.{bytes_eq-Decides}
+use Rattle.std.proofs.lemmas.Option.{none-some}
 use Rattle.std.proofs.lemmas.Bool.{cond-false}
 use Rattle.height.specs.declared.refusal.Refusal.{Refusal}
 use Rattle.height.specs.declared.refusal.Refusal.TheVariants.{File, Line, Tick, Asked, Text}
@@ -13,33 +14,18 @@ use Rattle.replies.specs.Said.{Answered, as_crossing, as_number, as_refusal, as_
 use Rattle.replies.specs.Promise.{AllShort, AnswersBack}
 use Rattle.replies.specs.declared.answer.Said.{Said}
 use Rattle.replies.specs.declared.answer.Said.TheVariants.{Nothing, Number, Rise, Set, Span, Hidden, Refused}
-use Rattle.replies.proofs.AnswersTold.{nothing}
 use Rattle.replies.proofs.Lines.{behind_colon}
 use Rattle.words.specs.Numbers.{figures_of, number_of}
 use Rattle.words.specs.Words.{blank, before_first, pieces, filled, words}
 use Rattle.words.proofs.Backs.{read_back}
-use Rattle.words.proofs.Solid.{Solid, solid, solid_by, words_front, words_last, signed_word}
-
--- a number that has at most 18 figures is one word
-word : (z : ℤ) → nat_abs z < 10 ^ 18 → Solid (signed_decimal z) × (0 < length (signed_decimal z))
-word z h = signed_word z (omega arith)
-
-last : (z : ℤ) → nat_abs z < 10 ^ 18 → words (signed_decimal z) ≡ signed_decimal z ∷ []
-last z h = let p = word z h in words_last (signed_decimal z) p.0 p.1
-
-front : (z : ℤ) (rest : List ℕ) (ws : List (List ℕ)) → nat_abs z < 10 ^ 18 → words rest ≡ ws → words (signed_decimal z ++ (32 ∷ rest)) ≡ signed_decimal z ∷ ws
-front z rest ws h e = let p = word z h in words_front (signed_decimal z) rest p.0 p.1 ∙ ap (λ (l : List (List ℕ)). signed_decimal z ∷ l) e
-
--- a word that is written out
-key : (w rest : List ℕ) (ws : List (List ℕ)) → solid w ≡ true → 0 < length w → words rest ≡ ws → words (w ++ (32 ∷ rest)) ≡ w ∷ ws
-key w rest ws s h e = words_front w rest (solid_by w s) h ∙ ap (λ (l : List (List ℕ)). w ∷ l) e
+use Rattle.words.proofs.Solid.{Solid, solid_by, key_front, key_last, number_front, number_last, signed_word, words_front}
 
 -- a number is no word that is not one
 no_key : (z : ℤ) (k : List ℕ) → nat_abs z < 10 ^ 18 → number_of k ≡ None → bytes_eq (signed_decimal z) k ≡ false
 no_key z k h n = go (bytes_eq (signed_decimal z) k) (bytes_eq-Decides (signed_decimal z) k)
   where
     go : (b : Bool) → Decides b (signed_decimal z ≡ k) → b ≡ false
-    go true d = absurd (nothing z (sym n ∙ ap number_of (sym (d.0 refl)) ∙ read_back z h))
+    go true d = absurd (none-some z (sym n ∙ ap number_of (sym (d.0 refl)) ∙ read_back z h))
     go false d = refl
 
 no_numbers : (number_of (codes "none") ≡ None) × (number_of (codes "hidden") ≡ None)
@@ -51,18 +37,18 @@ number_back z h =
     cond-false _ _ _ (no_key z (codes "none") h no_numbers.0) ∙ cond-false _ _ _ (no_key z (codes "hidden") h no_numbers.1) ∙ ap as_number (read_back z h)
 
 answer_back : (s : Said) → Answered s → AllShort (numbers s) → said_of (words (said_bytes s)) ≡ Some s
-answer_back Nothing a h = ap said_of (words_last (codes "none") (solid_by (codes "none") refl) (lit< tt))
-answer_back (Number z) a h = ap said_of (last z h.0) ∙ number_back z h.0
-answer_back (Rise z) a h = ap said_of (key (codes "rise") (signed_decimal z) (signed_decimal z ∷ []) refl (lit< tt) (last z h.0)) ∙ ap (as_crossing (codes "rise")) (read_back z h.0)
-answer_back (Set z) a h = ap said_of (key (codes "set") (signed_decimal z) (signed_decimal z ∷ []) refl (lit< tt) (last z h.0)) ∙ ap (as_crossing (codes "set")) (read_back z h.0)
+answer_back Nothing a h = ap said_of (key_last (codes "none") refl (lit< tt))
+answer_back (Number z) a h = ap said_of (number_last z h.0) ∙ number_back z h.0
+answer_back (Rise z) a h = ap said_of (key_front (codes "rise") (signed_decimal z) (signed_decimal z ∷ []) refl (lit< tt) (number_last z h.0)) ∙ ap (as_crossing (codes "rise")) (read_back z h.0)
+answer_back (Set z) a h = ap said_of (key_front (codes "set") (signed_decimal z) (signed_decimal z ∷ []) refl (lit< tt) (number_last z h.0)) ∙ ap (as_crossing (codes "set")) (read_back z h.0)
 answer_back (Span a b c d) t h =
     let A = h.0 in
     let B = h.1.0 in
     let C = h.1.1.0 in
     let D = h.1.1.1.0 in
-    ap said_of (front a _ _ A (front b _ _ B (front c _ _ C (last d D))))
+    ap said_of (number_front a _ _ A (number_front b _ _ B (number_front c _ _ C (number_last d D))))
     ∙ (λ i. as_span (read_back a A i) (read_back b B i) (read_back c C i) (read_back d D i))
-answer_back Hidden a h = ap said_of (words_last (codes "hidden") (solid_by (codes "hidden") refl) (lit< tt))
+answer_back Hidden a h = ap said_of (key_last (codes "hidden") refl (lit< tt))
 answer_back (Refused n z) a h = absurd a
 
 -- a place is read without its colon
@@ -83,14 +69,13 @@ solid_append (x ∷ v) w s t = (s.0, solid_append v w s.1 t)
 -- a refusal, and a reason of one word or more
 refused_back : (n z : ℤ) (reason u : List ℕ) (ws : List (List ℕ)) → nat_abs n < 10 ^ 18 → nat_abs z < 10 ^ 18 → words reason ≡ u ∷ ws → said_of (words (said_bytes (Refused n z) ++ (codes " " ++ reason))) ≡ Some (Refused n z)
 refused_back n z reason u ws N Z e =
-    let p = word z Z in
+    let p = signed_word z (omega arith) in
     let spot = signed_decimal z ++ codes ":" in
     let four : words (signed_decimal z ++ (codes ":" ++ (codes " " ++ reason))) ≡ spot ∷ (u ∷ ws) =
     ap words (sym (append_assoc (signed_decimal z) (codes ":") (codes " " ++ reason)))
-    ∙ words_front spot reason (solid_append (signed_decimal z) (codes ":") p.0 (solid_by (codes ":") refl)) (omega (arith, length-append (signed_decimal z) (codes ":")))
-    ∙ ap (λ (l : List (List ℕ)). spot ∷ l) e in
+    ∙ words_front spot reason (u ∷ ws) (solid_append (signed_decimal z) (codes ":") p.0 (solid_by (codes ":") refl), omega (arith, length-append (signed_decimal z) (codes ":"))) e in
     ap (λ (l : List ℕ). said_of (words l)) (behind_colon (signed_decimal n) (signed_decimal z) (codes " " ++ reason))
-    ∙ ap said_of (key (codes "refused") _ _ refl (lit< tt) (front n _ _ N (key (codes "at") _ _ refl (lit< tt) four)))
+    ∙ ap said_of (key_front (codes "refused") _ _ refl (lit< tt) (number_front n _ _ N (key_front (codes "at") _ _ refl (lit< tt) four)))
     ∙ ap₂ as_refusal (read_back n N) (place_back (signed_decimal z) ∙ read_back z Z)
 
 -- a text that begins with no blank has a word

@@ -6,7 +6,7 @@ ghost use Rattle.std.specs.Prelude.{◌≡◌};
 use words::number::number;
 use words::split::Words;
 
-// What one line says. The numbers of `near` and `seen` are fractions, and are not read here.
+// What one line says; a refusal is one of the things that it can say. The numbers of `near` and `seen` are fractions, and are not read here.
 #[derive(Clone, Copy, PartialEq, Eq, Debug)]
 pub enum Said {
     // That there is none.

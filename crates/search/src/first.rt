@@ -18,7 +18,7 @@ pub struct Found {
     pub till: u64,
     // how many ticks were evaluated
     pub evaluations: u64,
-    // how many heights were worked out for them
+    // how many heights were worked out for them: as many as the signal says of each, which stands in the contracts, since it is the signal that knows it
     pub heights: u64,
 }
 

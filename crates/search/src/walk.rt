@@ -36,6 +36,7 @@ impl<'s, S: Signal> Crossings<'s, S> {
             return Crossings {
                 signal,
                 tick: end,
+                // no tick is left to ask it of
                 above: false,
                 evaluations: 0,
             };

@@ -1,6 +1,6 @@
 -- A question, as a step. Assumes nothing.
 use Rattle.std.proofs.Common.{◌≡◌, ℕ, ◌^◌, ◌≤◌, Bool, true, false, ◌||◌, nat_le, List, ◌++◌, ℤ, unsigned_abs, Some, None, Ok, Err, Option, Result, sym, refl, ap, ◌∙◌, subst}
-use Rattle.std.proofs.lemmas.Bool.{cond-true, cond-false, leb-true}
+use Rattle.std.proofs.lemmas.Bool.{cond-true, cond-false, leb-true, false_from_ne_true}
 use Rattle.almanac.specs.declared.ask.Fault.{Fault}
 use Rattle.almanac.specs.declared.ask.Fault.TheVariants.{Refused, Memory}
 use Rattle.height.specs.Files.{Good, first_beyond}
@@ -21,10 +21,6 @@ or_false false = refl
 or_true : (b : Bool) → b || true ≡ true
 or_true true = refl
 or_true false = refl
-
-untrue : (b : Bool) → (b ≡ true → ⊥) → b ≡ false
-untrue true h = absurd (h refl)
-untrue false h = refl
 
 begun_asking : (p : Phase) → (p ≡ ended → ⊥) → begun_phase p ≡ asking
 begun_asking reading h = refl
@@ -55,7 +51,7 @@ pub is_refused : (s : State) (o : Option Order) (e : Refusal) (was : List ℕ) (
 is_refused s o e was r p h = subst (Answers s o s was was) (sym h) (p, refl, refl)
 
 pub far_line : (s : State) (o : Option Order) (z : ℤ) → o ≡ Some (ForLine z) → (unsigned_abs z ≤ 2 ^ 24 → ⊥) → with_order s o ≡ with_reply s (refuses_as Line)
-far_line s o z e h = ap (with_order s) e ∙ cond-false (nat_le (unsigned_abs z) (2 ^ 24)) _ _ (untrue _ (λ t. h (leb-true (unsigned_abs z) (2 ^ 24) t)))
+far_line s o z e h = ap (with_order s) e ∙ cond-false (nat_le (unsigned_abs z) (2 ^ 24)) _ _ (false_from_ne_true _ (λ t. h (leb-true (unsigned_abs z) (2 ^ 24) t)))
 
 pub bad_file : (s : State) (o : Option Order) (order : Order) → o ≡ Some order → ((z : ℤ) → order ≡ ForLine z → ⊥) → (Good s.numbers → ⊥) → with_order s o ≡ with_reply s (refuses_as (File (first_beyond s.numbers)))
 bad_file s o order e other bad =
@@ -76,7 +72,7 @@ is_answered s o order xs was is r asks e other good same q = go r q
       q.1 ∙ ap (λ (p : Step). was ++ p.text) (sym step),
     )
     go (Err (Refused x)) q = (step ∙ ap (with_reply s) q.0, refl, q.1)
-    go (Err Memory) q = tt
+    go (Err (Memory e)) q = tt
 
 -- ---- and the next line, behind the first question
 module _ (s b t n : State) (o : Option Order) (was : List ℕ) (begins : b ≡ begun s) where

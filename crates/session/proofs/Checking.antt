@@ -2,7 +2,7 @@
 use Rattle.std.proofs.Common.{◌≡◌, Bool, true, false, List, ℤ, refl}
 use Rattle.height.specs.Files.{Good}
 use Rattle.height.proofs.Bridges.{checked_by_spans}
-use Rattle.session.specs.Stages.{good_file}
+use Rattle.session.specs.Replies.{good_file}
 
 pub good_yes : (xs : List ℤ) → Good xs → good_file xs ≡ true
 good_yes xs h = (checked_by_spans xs).1 h

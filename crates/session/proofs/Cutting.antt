@@ -4,7 +4,7 @@ use Rattle.std.proofs.lemmas.Bool.{cond-true, cond-false}
 use Rattle.std.specs.List.{IsFirstMatchOrLen}
 use Rattle.words.specs.Words.{before_first}
 use Rattle.session.specs.Lines.{lines}
-use Rattle.session.specs.Sessions.{State, run, run_lines, start, step}
+use Rattle.session.specs.Sessions.{State, run, run_lines, step}
 
 -- ---- the first line, and what follows it
 at_break : (b : ℕ) (bs : List ℕ) → (b == 10) ≡ true → lines (b ∷ bs) ≡ (b ∷ []) ∷ lines bs
@@ -44,13 +44,6 @@ first_cut (b ∷ a ∷ bs) (c ∷ cs) after (suc i) e n f h =
 pub record Running (text : List ℕ) (s : State) (written rest : List ℕ) : Type 0 where
   pub state : (run_lines s (lines rest)).state ≡ (run text).state
   pub so_far : written ++ (run_lines s (lines rest)).text ≡ (run text).text
-
-pub running_start : (text : List ℕ) (s : State) (written : List ℕ) → s ≡ start → written ≡ [] → Running text s written text
-running_start text s written e w =
-    record {
-      state = ap (λ (x : State). (run_lines x (lines text)).state) e;
-      so_far = (λ i. w i ++ (run_lines (e i) (lines text)).text);
-    }
 
 one_more : (s : State) (l : List ℕ) (ls : List (List ℕ)) → ((run_lines s (l ∷ ls)).state ≡ (run_lines (step s l).state ls).state) × ((run_lines s (l ∷ ls)).text ≡ (step s l).text ++ (run_lines (step s l).state ls).text)
 unfolding run_lines

@@ -4,4 +4,3 @@ pub mod Checking
 pub mod Cutting
 pub mod Promised
 pub mod Pushed
-pub mod Stepping

@@ -1,6 +1,6 @@
 -- What is promised of a whole run. Assumes nothing.
 use Rattle.std.proofs.Common.{◌≡◌, ℕ, ◌^◌, Bool, true, false, cond, leb, List, [], ◌∷◌, ◌++◌, ℤ, nat_abs, Some, None, Option, refl, ap, ◌∙◌, append-nil}
-use Rattle.std.proofs.lemmas.Bool.{le-leb, leb-true}
+use Rattle.std.proofs.lemmas.Bool.{le-leb, leb-true, false_from_ne_true}
 use Rattle.height.specs.declared.refusal.Refusal.TheVariants.{Line, Text}
 use Rattle.text.specs.Answers.{refusal_bytes}
 use Rattle.text.specs.declared.order.Order.{Order}
@@ -45,11 +45,6 @@ numbers_too_late s l ls e k =
     (ap (λ (p : Phase). unless_ended p s (by_kind (kind_of (words (bare l))) s (words (bare l)))) e
     ∙ ap (λ (x : Kind). by_kind x s (words (bare l))) k ∙ ap (λ (p : Phase). numbers_in p s (words (bare l))) e)
 
--- a test that does not hold
-untrue : (b : Bool) → (b ≡ true → ⊥) → b ≡ false
-untrue true h = absurd (h refl)
-untrue false h = refl
-
 module _ (s : State) where
   near_line : (t : Bool) (z : ℤ) → (cond t (quietly (record { numbers = s.numbers; line = z; phase = asking; at = next_line s.at; refused = s.refused })) (with_reply s (refuses_as Line))).state.numbers ≡ s.numbers
   near_line true z = refl
@@ -82,6 +77,6 @@ orders_keep s = record {
   file = file_stays s;
   unreadable = refl;
   question = line_stays s;
-  far = λ z h. by_test s false z (untrue (leb (nat_abs z) (2 ^ 24)) (λ e. h (leb-true (nat_abs z) (2 ^ 24) e)));
+  far = λ z h. by_test s false z (false_from_ne_true (leb (nat_abs z) (2 ^ 24)) (λ e. h (leb-true (nat_abs z) (2 ^ 24) e)));
   near = λ z h. by_test s true z (le-leb (nat_abs z) (2 ^ 24) h);
 }

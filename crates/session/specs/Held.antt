@@ -34,4 +34,4 @@ Refuses s e is was now (Err f) = Unit {0}
 abbrev pub Answers : State → Option Order → State → (was now : List ℕ) → Result (Unit {0}) Fault → Type 0
 Answers s o t was now (Ok u) = (passed t ≡ (with_order s o).state) × (now ≡ was ++ (with_order s o).text)
 Answers s o t was now (Err (Refused e)) = (with_order s o ≡ with_reply s (refuses_as e)) × (t ≡ s) × (now ≡ was)
-Answers s o t was now (Err Memory) = Unit {0}
+Answers s o t was now (Err (Memory e)) = Unit {0}

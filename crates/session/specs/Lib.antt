@@ -4,4 +4,3 @@ pub mod Promise
 pub mod Pushing
 pub mod Replies
 pub mod Sessions
-pub mod Stages

@@ -8,4 +8,4 @@ use Rattle.session.specs.declared.numbers.Unread.TheVariants.{Word, Memory}
 abbrev pub Pushes : (was : List ℤ) (ws : List (List ℕ)) (is : List ℤ) → Result (Unit {0}) Unread → Type 0
 Pushes was ws is (Ok u) = (zs : List ℤ) × (numbers_of ws ≡ Some zs) × (is ≡ was ++ zs)
 Pushes was ws is (Err Word) = (numbers_of ws ≡ None) × (is ≡ was)
-Pushes was ws is (Err Memory) = Unit {0}
+Pushes was ws is (Err (Memory e)) = Unit {0}

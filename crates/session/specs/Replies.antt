@@ -1,17 +1,17 @@
 -- What is answered to an order, as text. Assumes nothing: these are definitions.
-use Rattle.std.specs.Prelude.{◌≡◌, ℕ, zero, suc, ◌+◌, ◌-◌, ◌*◌, ◌/◌, min, Bool, true, false, cond, ◌&&◌, List, [], ◌++◌, length, take, drop, ℤ, pos, negsuc, ◌*ℤ◌, Some, None, Ok, Err, Option, Result, nat_le, nat_lt}
+use Rattle.std.specs.Prelude.{◌≡◌, ℕ, zero, suc, ◌+◌, ◌-◌, ◌*◌, ◌/◌, ◌%◌, min, Bool, true, false, cond, ◌&&◌, ◌==◌, List, [], ◌++◌, length, take, drop, ℤ, pos, negsuc, ◌*ℤ◌, Some, None, Ok, Err, Option, Result, nat_le, nat_lt}
 use Rattle.almanac.specs.declared.ask.Fault.{Fault}
 use Rattle.almanac.specs.declared.ask.Fault.TheVariants.{Refused, Memory}
 use Rattle.crossing.specs.Above.{above}
 use Rattle.crossing.specs.Events.{crossings, happens}
 use Rattle.height.specs.Almanacs.{Almanac, ticks, height_at, rounded}
+use Rattle.height.specs.Customary.{small_almanac}
 use Rattle.height.specs.Files.{almanac_in, first_beyond}
 use Rattle.height.specs.declared.refusal.Refusal.{Refusal}
 use Rattle.height.specs.declared.refusal.Refusal.TheVariants.{File, Tick}
 use Rattle.text.specs.Answers.{height_bytes, part_bytes, refusal_bytes, table_bytes, tick_bytes}
 use Rattle.text.specs.declared.order.Order.{Order}
 use Rattle.text.specs.declared.order.Order.TheVariants.{Line, First, Height, Spans, Table, Tables}
-use Rattle.session.specs.Stages.{good_file}
 
 -- what is written, and whether it is a refusal
 pub record Reply : Type 0 where
@@ -67,6 +67,10 @@ answer xs line (Table z) =
     at_tick (almanac_in 1024 xs) (pos 1024 *ℤ z) (λ t. table_bytes (crossings (above (almanac_in 1024 xs) line) t (min (t + 1024) (ticks (almanac_in 1024 xs)) - t)))
 answer xs line Tables = says (table_bytes (crossings (above (almanac_in 1024 xs) line) 0 (ticks (almanac_in 1024 xs))))
 
+-- whether a file is good: four numbers a span, 1 to 4,096 spans, every number within 2^24
+abbrev pub good_file : List ℤ → Bool
+good_file xs = length xs % 4 == 0 && small_almanac (almanac_in 1024 xs)
+
 -- the answer over any file: one that is not good refuses every question
 abbrev pub reply : List ℤ → (line : ℤ) → Order → Reply
 reply xs line o = cond (good_file xs) (answer xs line o) (refuses_as (File (first_beyond xs)))
@@ -75,4 +79,4 @@ reply xs line o = cond (good_file xs) (answer xs line o) (refuses_as (File (firs
 abbrev pub Replies : (was : List ℕ) → Reply → (is : List ℕ) → Result (Unit {0}) Fault → Type 0
 Replies was r is (Ok u) = (r.refuses ≡ false) × (is ≡ was ++ r.text)
 Replies was r is (Err (Refused e)) = (r ≡ refuses_as e) × (is ≡ was)
-Replies was r is (Err Memory) = Unit {0}
+Replies was r is (Err (Memory e)) = Unit {0}

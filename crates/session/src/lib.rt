@@ -2,7 +2,7 @@
 //
 //   line      a line of text without its end, and what kind of line it is
 //   kind      the kinds of lines
-//   memory    want of memory, the one error of this layer
+//   numbers   the numbers of a line
 //   stage     how far a session has come
 //   session   what a session holds
 //   reply     the answer to an order
@@ -13,7 +13,6 @@
 
 pub mod kind;
 pub mod line;
-pub mod memory;
 pub mod numbers;
 pub mod reply;
 pub mod run;

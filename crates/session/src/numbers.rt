@@ -1,11 +1,11 @@
 // The numbers of a line.
 ghost use Rattle.session.specs.Pushing.{Pushes};
-ghost use Rattle.session.specs.declared.numbers.Unread.TheVariants.{Memory};
+ghost use Rattle.session.specs.declared.numbers.Unread.TheVariants.{Memory, Word};
 ghost use Rattle.session.specs.Sessions.{kept as kept_of};
 ghost use Rattle.std.specs.Prelude.{◌≡◌};
 ghost use Rattle.words.specs.Words.{words};
 
-use std::alloc::AllocFailed;
+use std::alloc::{AllocError, AllocFailed};
 use words::number::number;
 use words::split::Words;
 
@@ -20,14 +20,14 @@ fn kept(z: i64) -> i32
 #[derive(Clone, Copy, PartialEq, Eq, Debug)]
 pub enum Unread {
     Word,
-    Memory,
+    Memory(AllocError),
 }
 
 impl<T: Drop> From<AllocFailed<T>> for Unread {
-    ghost from_gives = { λ _ r. r ≡ Memory };
+    ghost from_gives = { λ _ r. elim r [ Word ↦ ⊥ | Memory e ↦ Unit {0} ] };
 
-    fn from(_e: AllocFailed<T>) -> Unread {
-        Unread::Memory
+    fn from(failed: AllocFailed<T>) -> Unread {
+        Unread::Memory(failed.into())
     }
 }
 

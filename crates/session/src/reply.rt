@@ -33,10 +33,8 @@ impl<'a> Desk<'a> {
     fn tick(&self, z: i128) -> Result<u64, Refusal>
         ensures { elim result [ Ok t ↦ Some t ≡ tick_in (almanac_in 1024 (numbers_of self.now.almanac)) z | Err e ↦ (None ≡ tick_in (almanac_in 1024 (numbers_of self.now.almanac)) z) × (e ≡ Tick z) ] }
     {
-        match u64::try_from(z) {
-            Ok(tick) if tick < self.almanac.ticks() => Ok(tick),
-            _ => Err(Refusal::Tick(z)),
-        }
+        let tick = u64::try_from(z).map_err(|_| Refusal::Tick(z))?;
+        Ok(self.almanac.at(tick)?.tick)
     }
 
     // The height in a tick.
@@ -53,7 +51,7 @@ impl<'a> Desk<'a> {
         ensures { Replies (string_bytes out.old) (answer_of (numbers_of self.now.almanac) self.now.line.thousandths (First event z)) (string_bytes out.new) result }
     {
         let tick = self.tick(z as i128)?;
-        let first = self.almanac.first(self.line.thousandths(), event, tick)?;
+        let first = self.almanac.first_over(self.line, event, tick)?;
         put_tick(out, first.tick)?;
         Ok(())
     }
@@ -64,6 +62,7 @@ impl<'a> Desk<'a> {
     {
         match (u64::try_from(first), u64::try_from(end)) {
             (Ok(first), Ok(end)) => self.almanac.part(first, end),
+            // What is written for no part is what is written for an empty one.
             _ => &[],
         }
     }
@@ -75,7 +74,7 @@ impl<'a> Desk<'a> {
     {
         let listing = self
             .almanac
-            .crossings(self.heap, self.line.thousandths(), from, end)?;
+            .crossings_over(self.heap, self.line, from, end)?;
         put_table(out, listing.crossings.as_slice())?;
         Ok(())
     }

@@ -2,9 +2,8 @@
 ghost use Rattle.session.specs.Sessions.{run as run_of};
 ghost use Rattle.std.specs.Prelude.{◌≡◌, IfOk, string_bytes};
 
-use super::memory::NoMemory;
 use super::session::Session;
-use std::alloc::Global;
+use std::alloc::{AllocError, Global};
 
 // What is written for a text, and whether anything was refused.
 #[derive(Drop)]
@@ -14,7 +13,7 @@ pub struct Outcome {
 }
 
 // The run over a text: what it writes is what its lines write, one after the other.
-pub fn run(heap: Global, text: &[u8]) -> Result<Outcome, NoMemory>
+pub fn run(heap: Global, text: &[u8]) -> Result<Outcome, AllocError>
     ensures { IfOk result (λ o. (string_bytes o.text ≡ (run_of text.now).text) × (o.refused ≡ (run_of text.now).state.refused)) }
 {
     let mut session = Session::new(heap);

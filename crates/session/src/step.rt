@@ -10,7 +10,6 @@ ghost use Rattle.words.specs.Words.{words};
 
 use super::kind::Kind;
 use super::line::{bare, kind};
-use super::memory::NoMemory;
 use super::numbers::{Unread, push_numbers};
 use super::reply::Desk;
 use super::session::Session;
@@ -20,7 +19,7 @@ use almanac::ask::Fault;
 use height::line::Line;
 use height::refusal::Refusal;
 use height::view::check;
-use std::alloc::Global;
+use std::alloc::{AllocError, Global};
 use text::answer::put_refusal;
 use text::order::{Order, read_order};
 
@@ -46,7 +45,7 @@ impl Session {
     }
 
     // A refusal is written, and kept in mind.
-    fn refuse(&mut self, refusal: Refusal, out: &mut String) -> Result<(), NoMemory>
+    fn refuse(&mut self, refusal: Refusal, out: &mut String) -> Result<(), AllocError>
         ensures { Refuses (state_of self.old) refusal (state_of self.new) (string_bytes out.old) (string_bytes out.new) result }
     {
         put_refusal(out, refusal)?;
@@ -55,19 +54,19 @@ impl Session {
     }
 
     // A line that ends the text: it is refused, and nothing more is read.
-    fn end(&mut self, out: &mut String) -> Result<(), NoMemory>
+    fn end(&mut self, out: &mut String) -> Result<(), AllocError>
         ensures { Makes (ends (state_of self.old)) (state_of self.new) (string_bytes out.old) (string_bytes out.new) result }
     {
-        self.refuse(Refusal::Text(self.at), out)?;
+        let refusal = Refusal::Text(self.at);
         self.stage = Stage::Ended;
         self.pass();
-        Ok(())
+        self.refuse(refusal, out)
     }
 }
 
 impl Session {
     // A line of numbers. Behind the first question, or with a word that is no number, it ends the text.
-    fn take_numbers(&mut self, line: &[u8], out: &mut String) -> Result<(), NoMemory>
+    fn take_numbers(&mut self, line: &[u8], out: &mut String) -> Result<(), AllocError>
         ensures { Makes (numbers_step (state_of self.old) (words line.now)) (state_of self.new) (string_bytes out.old) (string_bytes out.new) result }
     {
         if self.stage != Stage::Reading {
@@ -79,7 +78,7 @@ impl Session {
                 Ok(())
             }
             Err(Unread::Word) => self.end(out),
-            Err(Unread::Memory) => Err(NoMemory),
+            Err(Unread::Memory(want)) => Err(want),
         }
     }
 }
@@ -127,7 +126,7 @@ impl Session {
     }
 
     // A question. The first one ends the numbers.
-    fn ask(&mut self, heap: Global, line: &[u8], out: &mut String) -> Result<(), NoMemory>
+    fn ask(&mut self, heap: Global, line: &[u8], out: &mut String) -> Result<(), AllocError>
         requires { phase_of self.old.stage ≢ ended }
         ensures { Makes (with_order (state_of self.old) (order_of (words line.now))) (state_of self.new) (string_bytes out.old) (string_bytes out.new) result }
     {
@@ -135,7 +134,7 @@ impl Session {
         match self.answer(heap, line, out) {
             Ok(()) => {}
             Err(Fault::Refused(refusal)) => self.refuse(refusal, out)?,
-            Err(Fault::Memory) => return Err(NoMemory),
+            Err(Fault::Memory(want)) => return Err(want),
         }
         self.pass();
         Ok(())
@@ -144,7 +143,7 @@ impl Session {
 
 impl Session {
     // One line of the text, with its end: what is written for it is put at the end of `out`.
-    pub fn feed(&mut self, heap: Global, raw: &[u8], out: &mut String) -> Result<(), NoMemory>
+    pub fn feed(&mut self, heap: Global, raw: &[u8], out: &mut String) -> Result<(), AllocError>
         ensures { Makes (step (state_of self.old) raw.now) (state_of self.new) (string_bytes out.old) (string_bytes out.new) result }
     {
         if self.stage == Stage::Ended {

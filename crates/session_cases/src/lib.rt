@@ -1,12 +1,11 @@
 // Whole runs, from text to text. What is expected was written down from docs/ALMANAC.md, and not taken from the program.
 #![tactic(auto)]
 
-use session::memory::NoMemory;
 use session::run::{Outcome, run};
-use std::alloc::Global;
+use std::alloc::{AllocError, Global};
 
 // What the program writes for a text, and whether anything was refused.
-pub fn outcome(heap: Global, text: &[u8]) -> Result<Outcome, NoMemory> {
+pub fn outcome(heap: Global, text: &[u8]) -> Result<Outcome, AllocError> {
     run(heap, text)
 }
 

@@ -5,19 +5,17 @@ ghost use Rattle.crossing.specs.Events.{happens};
 ghost use Rattle.height.specs.Almanacs.{ticks as ticks_of};
 ghost use Rattle.search.specs.Walks.{First};
 ghost use Rattle.sight.specs.Sights.{happens_by};
-ghost use Rattle.std.specs.Int.Signed.{le_z};
 
 use crossing::event::Event;
 use height::meter::Meter;
 use height::source::Source;
 
-// Whether the height in a tick is over a level.
+// Whether the height in a tick is over a level. The loop below knows from its range that there is such a tick; an `At` would check it again for each.
 fn is_over<S: Source>(source: &S, level: i64, tick: u64) -> bool
     requires { tick < ticks_of (S.almanac source.now) }
     ensures { result ≡ over (S.almanac source.now) level tick }
 {
-    let mut meter = Meter::new();
-    source.height(tick, &mut meter) >= level
+    source.height(tick, &mut Meter::new()) >= level
 }
 
 // Whether an event happens in a tick, by what is so there and was in the tick before.

@@ -1,8 +1,8 @@
 -- Texts written one piece after the other. Assumes nothing.
-use Rattle.std.proofs.Common.{◌≡◌, ℕ, zero, suc, ◌/◌, ◌<◌, List, [], ◌∷◌, ◌++◌, length, get_or, ℤ, pos, Ok, Err, Result, refl, ap, ◌∙◌, append_assoc, arith}
+use Rattle.std.proofs.Common.{◌≡◌, ℕ, zero, suc, ◌/◌, ◌<◌, List, [], ◌∷◌, ◌++◌, length, get_or, ℤ, pos, refl, ap, arith}
 use Rattle.std.specs.List.{flat_map}
 use Rattle.std.specs.Simd.{first_chunks}
-use Rattle.text.specs.Answers.{Appends, span_bytes, numbers_bytes, part_bytes}
+use Rattle.text.specs.Answers.{span_bytes, numbers_bytes, part_bytes}
 
 -- a span's line, of its four numbers
 abbrev pub four_bytes : List ℤ → List ℕ

@@ -1,5 +1,5 @@
 // What a line of text asks for.
-ghost use Rattle.text.specs.Orders.{keyed, keyed_alone, keyed_twice, order_of};
+ghost use Rattle.text.specs.Orders.{keyed, order_of};
 ghost use Rattle.words.specs.Words.{words};
 ghost use Rattle.std.specs.Prelude.{◌≡◌};
 
@@ -23,7 +23,7 @@ pub enum Order {
     Tables,
 }
 
-// The order of a word and a number.
+// The order of a word and a number. An event's word is one of an order's words, so they are read in one match.
 fn with_number(key: &[u8], n: i64) -> Option<Order>
     ensures { result ≡ keyed key.now n }
 {

@@ -4,6 +4,7 @@ ghost use Rattle.text.specs.Answers.{Appends};
 ghost use Rattle.text.specs.Orders.{order_bytes};
 
 use super::order::Order;
+use std::alloc::AllocError;
 use std::fmt;
 use std::fmt::Write;
 
@@ -24,8 +25,8 @@ impl fmt::Display for Order {
 }
 
 // An order, at the end of a text.
-pub fn put_order(out: &mut String, order: Order) -> fmt::Result
+pub fn put_order(out: &mut String, order: Order) -> Result<(), AllocError>
     ensures { Appends (string_bytes out.old) (order_bytes order) (string_bytes out.new) result }
 {
-    Ok(write!(out, "{order}")?)
+    write!(out, "{order}")
 }

@@ -1,8 +1,9 @@
 -- Figures, read one after the other. Assumes nothing.
-use Rattle.std.proofs.Common.{◌≡◌, ℕ, zero, suc, ◌+◌, ◌-◌, ◌*◌, ◌^◌, ◌<◌, ◌≤◌, Bool, true, false, ◌&&◌, ltb, leb, List, [], ◌∷◌, length, get_or, drop, Some, None, sym, refl, ap, ◌∙◌, add-one, arith, lit<, drop-cons}
+use Rattle.std.proofs.Common.{◌≡◌, ℕ, ◌+◌, ◌-◌, ◌*◌, ◌^◌, ◌<◌, ◌≤◌, Bool, true, false, ◌&&◌, ltb, leb, List, ◌∷◌, length, get_or, drop, Some, None, sym, refl, ap, ◌∙◌, add-one, arith, lit<, drop-cons}
 use native.Mathlib.Nat.{pow-succ', pow-le-pow_right}
 use Rattle.std.specs.Char.{is_ascii_digit}
 use Rattle.std.specs.Str.{all_ascii_digits}
+use Rattle.std.proofs.lemmas.List.{drop_all}
 use Rattle.std.proofs.lemmas.Bool.{and_parts, leb-true, and_from, and_left, and_right, lt-ltb, le-ltb, cond-true, cond-false}
 use Rattle.words.specs.Numbers.{read_on, figures_of}
 
@@ -32,17 +33,11 @@ unfolding figures_of
 reading_stops word i n r h d =
     cond-false _ _ _ (and_right (ltb 0 (length word)) _ (and_right (ltb (length word) 19) _ (r.digits ∙ ap all_ascii_digits (next word i h) ∙ ap (λ (b : Bool). b && all_ascii_digits (drop (i + 1) word)) d)))
 
-past : (word : List ℕ) (i : ℕ) → length word ≤ i → drop i word ≡ []
-past [] zero h = refl
-past [] (suc i) h = refl
-past (b ∷ bs) zero h = absurd (omega arith)
-past (b ∷ bs) (suc i) h = past bs i (omega arith)
-
 pub reading_ends : (word : List ℕ) (i n : ℕ) → Reading word i n → length word ≤ i → 0 < length word → length word < 19 → figures_of word ≡ Some n
 unfolding figures_of
 reading_ends word i n r h some few =
-    cond-true _ _ _ (and_from _ _ (lt-ltb 0 (length word) some) (and_from _ _ (lt-ltb (length word) 19 few) (r.digits ∙ ap all_ascii_digits (past word i h))))
-    ∙ ap Some (r.value ∙ ap (read_on n) (past word i h))
+    cond-true _ _ _ (and_from _ _ (lt-ltb 0 (length word) some) (and_from _ _ (lt-ltb (length word) 19 few) (r.digits ∙ ap all_ascii_digits (drop_all i word h))))
+    ∙ ap Some (r.value ∙ ap (read_on n) (drop_all i word h))
 
 pub too_short : (word : List ℕ) → length word ≡ 0 → figures_of word ≡ None
 unfolding figures_of

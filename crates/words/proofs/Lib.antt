@@ -3,3 +3,4 @@ pub mod Figures
 pub mod Signs
 pub mod Solid
 pub mod Splits
+pub mod Told

@@ -7,6 +7,7 @@ use Rattle.std.proofs.lemmas.Fmt.{digits_decimal, decimal_nonempty}
 use Rattle.std.proofs.lemmas.Bool.{and_parts, cond-false, leb-true, ne_eqb, not-true, or_from}
 use Rattle.words.specs.Words.{blank, before_first, pieces, filled, words}
 use Rattle.words.proofs.Backs.{own}
+use Rattle.words.proofs.Splits.{kept}
 
 -- no blank in it
 abbrev pub Solid : List ℕ → Type 0
@@ -32,20 +33,19 @@ unfolding pieces
 pieces_front [] rest s = refl
 pieces_front (x ∷ w) rest s = cond-false _ _ _ s.0 ∙ ap (before_first x) (pieces_front w rest s.1)
 
-filled_first : (w : List ℕ) (ws : List (List ℕ)) → 0 < length w → filled (w ∷ ws) ≡ w ∷ filled ws
-unfolding filled
-filled_first [] ws h = absurd (omega arith)
-filled_first (x ∷ w) ws h = refl
-
 filled_none : filled [] ≡ []
 unfolding filled
 filled_none = refl
 
-pub words_last : (w : List ℕ) → Solid w → 0 < length w → words w ≡ w ∷ []
-words_last w s h = ap filled (pieces_last w s) ∙ filled_first w [] h ∙ ap (λ (l : List (List ℕ)). w ∷ l) filled_none
+-- a word has no blank in it, and is not empty
+abbrev pub Word : List ℕ → Type 0
+Word w = Solid w × (0 < length w)
 
-pub words_front : (w rest : List ℕ) → Solid w → 0 < length w → words (w ++ (32 ∷ rest)) ≡ w ∷ words rest
-words_front w rest s h = ap filled (pieces_front w rest s) ∙ filled_first w (pieces rest) h
+pub words_last : (w : List ℕ) → Word w → words w ≡ w ∷ []
+words_last w p = ap filled (pieces_last w p.0) ∙ kept w [] p.1 ∙ ap (λ (l : List (List ℕ)). w ∷ l) filled_none
+
+pub words_front : (w rest : List ℕ) (ws : List (List ℕ)) → Word w → words rest ≡ ws → words (w ++ (32 ∷ rest)) ≡ w ∷ ws
+words_front w rest ws p e = ap filled (pieces_front w rest p.0) ∙ kept w (pieces rest) p.1 ∙ ap (λ (l : List (List ℕ)). w ∷ l) e
 
 -- a number, as it is written, is one word
 pub digit_solid : (b : ℕ) → is_ascii_digit b ≡ true → blank b ≡ false
@@ -59,9 +59,26 @@ digits_solid (d ∷ ds) h =
     let p = and_parts (is_ascii_digit d) (all_ascii_digits ds) h in
     (digit_solid d p.0, digits_solid ds p.1)
 
-pub decimal_word : (n : ℕ) → n < 2 ^ 64 → Solid (decimal n) × (0 < length (decimal n))
+pub decimal_word : (n : ℕ) → n < 2 ^ 64 → Word (decimal n)
 decimal_word n h = (digits_solid (decimal n) (digits_decimal own n h), decimal_nonempty n h)
 
-pub signed_word : (z : ℤ) → nat_abs z < 2 ^ 64 → Solid (signed_decimal z) × (0 < length (signed_decimal z))
+pub signed_word : (z : ℤ) → nat_abs z < 2 ^ 64 → Word (signed_decimal z)
 signed_word (pos n) h = decimal_word n h
 signed_word (negsuc n) h = let p = decimal_word (suc n) h in ((refl, p.0), omega (arith, p.1))
+
+-- one of at most 18 figures: alone, and in front of others
+short_word : (z : ℤ) → nat_abs z < 10 ^ 18 → Word (signed_decimal z)
+short_word z h = signed_word z (omega arith)
+
+pub number_last : (z : ℤ) → nat_abs z < 10 ^ 18 → words (signed_decimal z) ≡ signed_decimal z ∷ []
+number_last z h = words_last (signed_decimal z) (short_word z h)
+
+pub number_front : (z : ℤ) (rest : List ℕ) (ws : List (List ℕ)) → nat_abs z < 10 ^ 18 → words rest ≡ ws → words (signed_decimal z ++ (32 ∷ rest)) ≡ signed_decimal z ∷ ws
+number_front z rest ws h e = words_front (signed_decimal z) rest ws (short_word z h) e
+
+-- a word that is written out: alone, and in front of others
+pub key_last : (w : List ℕ) → solid w ≡ true → 0 < length w → words w ≡ w ∷ []
+key_last w s h = words_last w (solid_by w s, h)
+
+pub key_front : (w rest : List ℕ) (ws : List (List ℕ)) → solid w ≡ true → 0 < length w → words rest ≡ ws → words (w ++ (32 ∷ rest)) ≡ w ∷ ws
+key_front w rest ws s h e = words_front w rest ws (solid_by w s, h) e

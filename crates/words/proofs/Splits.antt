@@ -70,7 +70,8 @@ no_words : words [] ≡ []
 unfolding pieces filled
 no_words = refl
 
-kept : (w : List ℕ) (t : List (List ℕ)) → 0 < length w → filled (w ∷ t) ≡ w ∷ filled t
+-- a word that has a byte is kept
+pub kept : (w : List ℕ) (t : List (List ℕ)) → 0 < length w → filled (w ∷ t) ≡ w ∷ filled t
 unfolding filled
 kept [] t h = absurd (omega arith)
 kept (b ∷ w) t h = refl

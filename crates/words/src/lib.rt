@@ -2,6 +2,7 @@
 //
 //   split     a line's words, one after the other
 //   number    a word as a whole number
+//   theorems  that numbers are read as they were written
 #![tactic(auto)]
 
 pub mod number;

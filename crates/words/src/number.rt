@@ -5,7 +5,7 @@ ghost use Rattle.words.specs.Numbers.{figures_of, number_of};
 // The most figures that a number may have.
 const MOST: usize = 18;
 
-// The number that 1 to 18 figures write.
+// The number that 1 to 18 figures write. `parse` would take a plus, and as many figures as fit.
 fn figures(word: &[u8]) -> Option<u64>
     ensures value { result ≡ figures_of word.now }
     ensures small { IfSome result (λ n. n < 10 ^ 18) }

@@ -10,7 +10,7 @@ fn is_blank(byte: u8) -> bool
     byte == b' ' || byte == b'\t'
 }
 
-// The words of a line that are still to come.
+// The words of a line that are still to come. A type of its own: the library's `split` and `filter` would hold closures, and no function can hand those out.
 #[derive(Clone, Copy)]
 pub struct Words<'a> {
     rest: &'a [u8],

@@ -29,4 +29,4 @@ returns g c =
     let was = c.loop-crossing.walk in
     let is = c.next.new.self in
     let step = rw c.loop-crossing.invariant.0 at c.in_default.ensures.steps in
-    rw (c.unwrap_or.ensures, c.evaluations.ensures) (filling_end m c.args.from was.tick is.tick was.evaluations is.evaluations c.loop-crossing.entries c.loop-crossing.first c.args.into.now c.loop-crossing.into c.loop-crossing.invariant.1 step.1)
+    rw c.evaluations.ensures (filling_end m c.args.from was.tick is.tick was.evaluations is.evaluations c.loop-crossing.entries c.loop-crossing.first c.args.into.now c.loop-crossing.into c.loop-crossing.invariant.1 step.1)

@@ -3,14 +3,15 @@ use Rattle.std.proofs.lemmas.Int.{to_z-of_z}
 use Rattle.height.specs.Files.{span_at}
 use Rattle.height.specs.Views.{almanac_of}
 use Rattle.reading.specs.Differences.{onward}
-use Rattle.reading.proofs.Moments.{small, moment_is}
+use Rattle.height.proofs.Fours.{small}
+use Rattle.reading.proofs.Moments.{moment_is}
 use Rattle.reading.proofs.Rises.{onward_is, room}
 use Rattle.reading.proofs.cursor.Cursor.give.Goals as goal
 
 pub onward-self-requires : goal.onward-self-requires
 onward-self-requires c =
     let v = c.args.self.now in
-    rw v.stands (room (span_at v.view.numbers.now v.span) v.at (small v.view.numbers.now v.span v.inside v.view.small) c.requires)
+    rw v.stands (room (span_at v.view.numbers.now v.span) v.at (small v.view.numbers.now v.span v.inside v.view.good) c.requires)
 
 pub invariant_of-self : goal.invariant_of-self
 invariant_of-self c =

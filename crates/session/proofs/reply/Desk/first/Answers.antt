@@ -11,4 +11,4 @@ returns c =
     let m = almanac_in 1024 (numbers_of c.args.self.now.almanac) in
     let a = c.in_ok-first.ensures in
     first_said m c.args.z (happens c.args.event (above m c.args.self.now.line.thousandths)) c.in_ok-tick.tick c.in_ok-first.first.tick (string_bytes c.args.out.now) (string_bytes c.put_tick.new.out)
-    (search rules) a.1 (search rules) c.in_ok-put_tick.ensures
+    (search rules) a.0 (search rules) c.in_ok-put_tick.ensures
