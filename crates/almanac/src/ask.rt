@@ -117,6 +117,7 @@ impl<'a> Almanac<'a> {
 
 impl<'a> Almanac<'a> {
     // All risings and settings in the ticks from one up to another, without it, in order of time. It ends with the file if that comes first.
+    // The two ticks stand apart, as the project fixes them for the entries and for C.
     pub fn crossings(&self, heap: Global, line: i64, from: u64, end: u64) -> Result<Listing, Fault>
         ensures { elim result [ Ok l ↦ LineTaken line × TickTaken (numbers_of self.now) «from» × ListsCrossings (almanac_in 1024 (numbers_of self.now)) line «from» «end» l.crossings.items l.evaluations | Err f ↦ elim f [ Refused e ↦ Refuses (numbers_of self.now) line «from» 0 e | Memory e ↦ Unit {0} ] ] }
     {

@@ -24,7 +24,7 @@ pub enum When {
 }
 
 // From a tick on, the first one in which a body is above a line (0), rises (1) or sets (2), with how many heights were worked out; or why that is refused.
-// What is asked is a number, as the project fixes it for `first_of` and C hands it in.
+// What is asked is a number, as the project fixes it for `first_of` and C hands it in; a wrong one is refused behind a wrong file, line and tick.
 pub fn first_in(spans: &[i32], line: i64, from: u64, what: u64) -> Result<First, Refusal>
     ensures { elim result [ Ok a ↦ FirstAsked spans.now line «from» what a.tick a.evaluations | Err e ↦ Refuses spans.now line «from» what e ] }
 {

@@ -1,4 +1,4 @@
-// Numbers that look random, from a fixed seed.
+// Numbers that look random, from a fixed seed. Each crate of tests has its own, so that it reads alone.
 
 #[derive(Clone, Copy)]
 pub struct Dice {

@@ -13,7 +13,7 @@ use height::join::first_gap;
 use height::refusal::Refusal;
 use height::source::Source;
 
-// From a tick on, the first one in which a body is above a line (0), rises (1) or sets (2).
+// From a tick on, the first one in which a body is above a line (0), rises (1) or sets (2): C asks by a number.
 #[unsafe(no_mangle)]
 pub extern "C" fn pocketmica_first(spans: &[i32], line: i64, from: u64, what: u64) -> FirstAnswer
     ensures { FirstSays spans.now line «from» what result }

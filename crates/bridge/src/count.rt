@@ -15,7 +15,7 @@ use height::refusal::Refusal;
 use height::source::Source;
 use reading::stretch::Stretch;
 
-// In how many ticks of a span the height, times 2^30, is not below a level.
+// In how many ticks of a span the height, times 2^30, is not below a level. The range over spans says that there is such a span.
 fn ticks_in(view: View, span: u64, level: i64) -> u64
     requires { span < length view.numbers.now / 4 }
     ensures { result ≡ in_span (over (almanac_of view.entry) level) span }

@@ -14,7 +14,7 @@ use height::refusal::Refusal;
 use height::source::Source;
 use reading::cursor::Cursor;
 
-// A tick, and the height in it, times 2^30: what of a cursor's moment is compared.
+// A tick, and the height in it, times 2^30: what of a cursor's moment is compared. A `Moment` would have to say of tick 0 also that it begins a span.
 #[derive(Clone, Copy)]
 pub struct Peak {
     pub tick: u64,

@@ -33,7 +33,7 @@ fn put(into: &mut [u64], at: u64, tick: u64)
     }
 }
 
-// The ticks of all risings and settings of the row's ticks from one on, in one walk: as many as there is room for.
+// The room is lent by C, as a slice. The ticks of all risings and settings of the row's ticks from one on, in one walk: as many as there is room for.
 pub fn fill<S: Signal>(signal: &S, from: u64, into: &mut [u64]) -> Filled
     ensures { FilledWith (S.course signal.now) «from» into.old into.new result }
 {

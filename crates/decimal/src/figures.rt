@@ -1,4 +1,4 @@
-// A whole number over a power of two, written in decimal figures.
+// A whole number over a power of two, written in decimal figures: functions, since two types print by them.
 ghost use Rattle.std.specs.Prelude.{◌/◌, ◌^◌, ◌<◌, ◌≤◌, unsigned_abs};
 ghost use Rattle.std.specs.Fmt.{WritesOnOk};
 ghost use Rattle.decimal.specs.Figures.{exact_text, figures, part_text};

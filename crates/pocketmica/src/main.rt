@@ -51,7 +51,7 @@ fn no_memory(rt: &HostRuntime) -> Stop {
     Stop::Failed
 }
 
-// Prints a text of the program's own.
+// Prints a text of the program's own. A Result, as the other arms of `answer` have.
 fn print(rt: &HostRuntime, text: &str) -> Result<(), Stop> {
     let _ = rt.print(text);
     Ok(())

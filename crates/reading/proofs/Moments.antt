@@ -1,11 +1,10 @@
 -- What a cursor gives. Assumes nothing.
-use Rattle.std.proofs.Common.{◌≡◌, ℕ, ◌+◌, ◌*◌, ◌/◌, ◌^◌, ◌<◌, ◌≤◌, eqb, List, map, ◌-◌, length, get_or, ℤ, pos, nat_abs, sym, ap, ◌∙◌, arith}
+use Rattle.std.proofs.Common.{◌≡◌, ℕ, ◌+◌, ◌*◌, ◌<◌, eqb, List, map, ◌-◌, ℤ, sym, ap, ◌∙◌, arith}
 use lib.Arith.{digits_mod}
 use Rattle.std.specs.List.{range_with_len}
 use Rattle.std.proofs.lemmas.Simd.{map-map}
 use Rattle.height.specs.Almanacs.{Almanac, ticks, height_at}
-use Rattle.height.specs.Files.{span_at}
-use Rattle.height.specs.Spans.{height, Within}
+use Rattle.height.specs.Spans.{height}
 use Rattle.height.proofs.Ticks.{height_in_span}
 use Rattle.reading.specs.declared.answer.Moment.{Moment}
 use Rattle.reading.specs.Cursors.{moment, in_turn}

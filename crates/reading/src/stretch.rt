@@ -15,7 +15,7 @@ pub struct Stretch<'a> {
 }
 
 impl<'a> Stretch<'a> {
-    // All ticks of a span of the file.
+    // All ticks of a span of the file. Who goes over spans knows from the range that there is such a span.
     pub fn new(view: View<'a>, span: u64) -> Stretch<'a>
         requires { span < length view.numbers.now / 4 }
         ensures file { result.cursor.view.numbers.now ≡ view.entry.numbers.now }

@@ -1,14 +1,10 @@
 -- The first tick in which a condition becomes as wanted. Assumes nothing.
 use Rattle.std.proofs.Common.{◌≡◌, ℕ, zero, suc, ◌-◌, ◌<◌, ◌≤◌, Bool, true, false, not, Option, Some, None, unwrap_or, sym, ap, ◌∙◌, inl, inr, arith}
 use Rattle.std.proofs.Math.Bool.{not-not}
-use Rattle.std.proofs.lemmas.Bool.{cases_lt, true≢false, false≢true}
+use Rattle.std.proofs.lemmas.Bool.{cases_lt}
 use Rattle.crossing.specs.Above.{becomes}
-use Rattle.crossing.proofs.Turns.{becomes_here, not_from, not_to, not_at_first}
+use Rattle.crossing.proofs.Turns.{clash, becomes_here, not_from, not_to, not_at_first}
 use Rattle.search.specs.Walks.{First}
-
-clash : (w : Bool) → not w ≡ w → ⊥
-clash true e = false≢true e
-clash false e = true≢false e
 
 -- As wanted before the tick a, and not from there on: from the tick behind the first of these up to v it becomes so in none.
 no_turn : (f : ℕ → Bool) (w : Bool) (t s a v : ℕ) → s ≡ t - 1 → ((u : ℕ) → s ≤ u → u < a → f u ≡ not (not w)) → ((u : ℕ) → a ≤ u → u < v → f u ≡ not w) → (u : ℕ) → t ≤ u → u < v → becomes w f u ≡ false
@@ -36,7 +32,7 @@ turn f w t s stop (Some a) (Some r) lt s-is p q = (
     apart =
         elim (cases_lt a r) [
           | inl k ↦ k
-          | inr k ↦ (let e : a ≡ r = omega (arith, q.0) in absurd (clash w (sym p.2 ∙ ap f e ∙ q.2)))
+          | inr k ↦ (let e : a ≡ r = omega (arith, q.0) in absurd (clash w (sym (sym p.2 ∙ ap f e ∙ q.2))))
         ]
 
     at : (u : ℕ) → 0 < u → f u ≡ w → f (u - 1) ≡ not w → becomes w f u ≡ true

@@ -21,7 +21,7 @@ pub fn crossings<S: Signal>(heap: Global, signal: &S, from: u64) -> Result<Listi
 {
     let mut walk = Crossings::new(signal, from);
     let mut crossings = Vec::new(heap);
-    // A `for` over `walk.by_ref()` tells a proof nothing of `walk` behind it.
+    // A `for` over `walk.by_ref()` was tried: it tells a proof nothing of `walk` behind it.
     while let Some(crossing) = walk.next() {
         crossings.push(crossing)?;
     }

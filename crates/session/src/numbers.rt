@@ -9,7 +9,7 @@ use std::alloc::{AllocError, AllocFailed};
 use words::number::number;
 use words::split::Words;
 
-// A number as the file keeps it: one that is too large is the largest or the least of its type, which is beyond the bound too.
+// A number as the file keeps it: one that is too large is the largest or the least of its type, which is beyond the bound too. The library's `clamp`, since no `From` cuts a number off.
 fn kept(z: i64) -> i32
     ensures { result ≡ kept_of z }
 {

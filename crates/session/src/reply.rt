@@ -62,7 +62,7 @@ impl<'a> Desk<'a> {
     {
         match (u64::try_from(first), u64::try_from(end)) {
             (Ok(first), Ok(end)) => self.almanac.part(first, end),
-            // What is written for no part is what is written for an empty one.
+            // A rule of the project: `none` is written for no part and for an empty one.
             _ => &[],
         }
     }

@@ -2,7 +2,7 @@
 use Rattle.std.proofs.Common.{◌≡◌, ℕ, zero, suc, ◌+◌, ◌-◌, ◌*◌, ◌/◌, ◌%◌, ◌<◌, ◌≤◌, min, ℤ, ◌-ℤ◌, nat_abs, sym, ap, ◌∙◌, subst, mod-lt, div-add-mod', arith}
 use lib.Signed.{le_z}
 use Rattle.height.specs.declared.span.Span.{Span}
-use Rattle.height.specs.Almanacs.{Almanac, height_at}
+use Rattle.height.specs.Almanacs.{Almanac, height_at, ticks}
 use Rattle.height.specs.Spans.{height, slope}
 use Rattle.height.proofs.Ticks.{height_in_span}
 use Rattle.crossing.specs.Above.{over}
@@ -71,3 +71,15 @@ sighted m level h end t n s d steep most k some n_is s-is h-is d-is steep-is mos
 
     within : skip (nat_abs (height_at m t -ℤ level)) (slope m.fine (m.span (t / m.fine))) (room m end t) ≤ room m end t
     within = (skips_most (nat_abs (height_at m t -ℤ level)) (slope m.fine (m.span (t / m.fine))) (room m end t)).within
+
+-- A row that is said to end behind the body's last tick leaves no more room in a span than one that ends there: a span's own ticks all lie before that.
+pub room_left : (m : Almanac) (end t n most : ℕ) → n ≡ 1024 → n ≡ m.fine → t < min end (ticks m) → most ≡ min (n - 1 - t % n) (end - 1 - t) → most ≡ min (n - 1 - t % n) (min end (ticks m) - 1 - t)
+room_left m end t n most coarse fine inside is = go n coarse is
+  where
+    all : ticks m ≡ m.spans * 1024
+    all = ap (λ (x : ℕ). m.spans * x) (sym fine ∙ coarse)
+
+    go : (n : ℕ) → n ≡ 1024 → most ≡ min (n - 1 - t % n) (end - 1 - t) → most ≡ min (n - 1 - t % n) (min end (ticks m) - 1 - t)
+    go n e q =
+        subst (λ (x : ℕ). most ≡ min (x - 1 - t % x) (min end (ticks m) - 1 - t)) (sym e)
+        (let p = subst (λ (x : ℕ). most ≡ min (x - 1 - t % x) (end - 1 - t)) e q in omega (arith, all, p, inside))

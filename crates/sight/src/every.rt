@@ -10,7 +10,7 @@ use crossing::event::Event;
 use height::meter::Meter;
 use height::source::Source;
 
-// Whether the height in a tick is over a level. The loop below knows from its range that there is such a tick; an `At` would check it again for each.
+// Whether the height in a tick is over a level. The search below knows that there is such a tick; an `At` would check it again for each.
 fn is_over<S: Source>(source: &S, level: i64, tick: u64) -> bool
     requires { tick < ticks_of (S.almanac source.now) }
     ensures { result ≡ over (S.almanac source.now) level tick }

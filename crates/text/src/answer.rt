@@ -1,5 +1,5 @@
 // Answers and refusals, written at the end of a text.
-// These are functions over a Display: what is promised is a line of output, so an answer ends its line and is put at the end of a text.
+// These are functions over a Display: what is promised is a line of output, so an answer is put at the end of a text and ends its line.
 ghost use Rattle.std.specs.Prelude.{◌≡◌, ◌++◌, string_bytes, codes};
 ghost use Rattle.decimal.specs.Figures.{float_text};
 ghost use Rattle.text.specs.Answers.{Appends, height_bytes, near_bytes, part_bytes, refusal_bytes, sight_bytes, table_bytes, tick_bytes};

@@ -24,7 +24,7 @@ impl fmt::Display for Order {
     }
 }
 
-// An order, at the end of a text.
+// An order, at the end of a text, as answers are put there.
 pub fn put_order(out: &mut String, order: Order) -> Result<(), AllocError>
     ensures { Appends (string_bytes out.old) (order_bytes order) (string_bytes out.new) result }
 {

@@ -1,5 +1,6 @@
-use Rattle.std.proofs.Common.{◌≡◌, pos, ◌*ℤ◌, ap, ◌∙◌, w64, SFits, rules}
+use Rattle.std.proofs.Common.{◌≡◌, min, pos, ◌*ℤ◌, ap, arith, ◌∙◌, w64, SFits, rules}
 use Rattle.std.proofs.lemmas.Int.{to_z-of_z}
+use Rattle.height.specs.Almanacs.{ticks}
 use Rattle.height.specs.Files.{almanac_in}
 use Rattle.height.specs.Views.{almanac_of}
 use Rattle.almanac.specs.Doors.{numbers_of}
@@ -13,7 +14,10 @@ returns c =
     let sight = c.new-sight.result in
     let found = c.first_event.result in
     let fo : SFits w64 c.level.result = search rules in
+    let n = almanac_of sight.source in
+    let n_is : n ≡ m = ap almanac_of c.new-sight.ensures.source in
+    let stop_is : min sight.end (ticks n) ≡ min c.ticks.result (ticks m) = omega (arith, c.new-sight.ensures.stop, ap ticks n_is) in
     let level-is : sight.level ≡ line *ℤ pos 1073741824 = (simp to_z-of_z at c.new-sight.ensures.level) ∙ c.level.ensures in
     let p = handed m line c.args.event c.args.from found.tick c.into.result.tick found.evaluations c.into.result.evaluations c.into.ensures.0 c.into.ensures.1
-    (answered m (almanac_of sight.source) line sight.level c.args.event c.args.from found.till found.evaluations sight.end c.ticks.result found.tick (ap almanac_of c.new-sight.ensures.source) level-is c.ticks.ensures.value c.new-sight.ensures.stop c.first_event.ensures.first c.first_event.ensures.walked) in
+    (answered m n line sight.level c.args.event c.args.from found.till found.evaluations (min sight.end (ticks n)) c.ticks.result found.tick n_is level-is c.ticks.ensures.value stop_is c.first_event.ensures.first c.first_event.ensures.walked) in
     (search rules, p.0, p.1)
