@@ -3,7 +3,8 @@
 
 #[cfg(test)]
 mod heights;
-pub mod random;
+#[cfg(test)]
+mod random;
 
 #[cfg(test)]
 mod tests {

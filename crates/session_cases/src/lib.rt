@@ -1,17 +1,9 @@
 // Whole runs, from text to text. What is expected was written down from docs/ALMANAC.md, and not taken from the program.
 #![tactic(auto)]
 
-use session::run::{Outcome, run};
-use std::alloc::{AllocError, Global};
-
-// What the program writes for a text, and whether anything was refused.
-pub fn outcome(heap: Global, text: &[u8]) -> Result<Outcome, AllocError> {
-    run(heap, text)
-}
-
 #[cfg(test)]
 mod tests {
-    use super::outcome;
+    use session::run::run;
     use std::alloc::Global;
     use std::process::Abort;
     use std::test::Fail;
@@ -24,7 +16,7 @@ mod tests {
         expected: &str,
         refused: bool,
     ) -> Result<(), Fail> {
-        let outcome = outcome(heap, text)?;
+        let outcome = run(heap, text)?;
         assert_eq!(rt; outcome.text.as_str(), expected);
         assert_eq!(rt; outcome.refused, refused);
         Ok(())
