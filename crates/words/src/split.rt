@@ -33,7 +33,11 @@ impl<'a> Iterator for Words<'a> {
     ghost remaining = { item_count words_left };
 
     fn next(&mut self) -> Option<&'a [u8]> {
-        let start = self.rest.iter().position(|b| !is_blank(*b))?;
+        let Some(start) = self.rest.iter().position(|b| !is_blank(*b)) else {
+            // Where no word is left, nothing is: the blanks at the end are gone through once.
+            self.rest = &[];
+            return None;
+        };
         let (_, rest) = self.rest.split_at(start);
         let end = rest.iter().position(|b| is_blank(*b)).unwrap_or(rest.len());
         let (word, rest) = rest.split_at(end);
