@@ -12,9 +12,9 @@ use height::line::Line;
 use height::meter::Meter;
 use height::refusal::Refusal;
 use reading::answer::{Near, Sighting};
-use reading::near::near;
+use reading::near::near_at;
 use reading::part::part;
-use reading::sighting::{above, sighting};
+use reading::sighting::{above_at, sighting_at};
 
 impl<'a> Almanac<'a> {
     // The height in a tick, exact: times 2^30.
@@ -29,14 +29,14 @@ impl<'a> Almanac<'a> {
         ensures { elim result [ Ok h ↦ LineTaken line × TickTaken (numbers_of self.now) tick × (h ≡ above_line (height_at (almanac_in 1024 (numbers_of self.now)) tick) line) × (unsigned_abs h < 2 ^ 59) | Err e ↦ Refuses (numbers_of self.now) line tick 0 e ] }
     {
         let line = Line::try_from(line)?;
-        Ok(above(&self.at(tick)?, line))
+        Ok(above_at(&self.at(tick)?, line))
     }
 
     // The height in a tick as a binary64 number, and how far off that is at most.
     pub fn near(&self, tick: u64) -> Result<Near, Refusal>
         ensures { elim result [ Ok x ↦ TickTaken (numbers_of self.now) tick × Nears (height_at (almanac_in 1024 (numbers_of self.now)) tick) x | Err e ↦ Refuses (numbers_of self.now) (pos 0) tick 0 e ] }
     {
-        Ok(near(&self.at(tick)?))
+        Ok(near_at(&self.at(tick)?))
     }
 
     // Whether the body is seen over a line in a tick, and how high over it.
@@ -44,7 +44,7 @@ impl<'a> Almanac<'a> {
         ensures { elim result [ Ok x ↦ LineTaken line × TickTaken (numbers_of self.now) tick × Sights (height_at (almanac_in 1024 (numbers_of self.now)) tick) line x | Err e ↦ Refuses (numbers_of self.now) line tick 0 e ] }
     {
         let line = Line::try_from(line)?;
-        Ok(sighting(&self.at(tick)?, line))
+        Ok(sighting_at(&self.at(tick)?, line))
     }
 
     // The spans from one up to another, without it, as a slice of the file.

@@ -14,7 +14,7 @@ pub struct Line {
 
 impl Line {
     // What a line is multiplied by to be a level.
-    const UNIT: i64 = 1 << 30;
+    pub const UNIT: i64 = 1 << 30;
 
     pub fn thousandths(self) -> i64
         ensures { result ≡ self.thousandths }

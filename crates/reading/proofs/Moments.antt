@@ -1,7 +1,8 @@
 -- What a cursor gives. Assumes nothing.
-use Rattle.std.proofs.Common.{◌≡◌, ℕ, ◌+◌, ◌*◌, ◌<◌, eqb, List, map, ◌-◌, ℤ, sym, ap, ◌∙◌, arith}
+use Rattle.std.proofs.Common.{◌≡◌, ℕ, ◌+◌, ◌*◌, ◌<◌, eqb, List, [], ◌∷◌, ◌++◌, map, ◌-◌, ℤ, sym, ap, ◌∙◌, arith}
 use lib.Arith.{digits_mod}
 use Rattle.std.specs.List.{range_with_len}
+use Rattle.std.proofs.lemmas.List.FromFn.{map-range_with_len_more}
 use Rattle.std.proofs.lemmas.Simd.{map-map}
 use Rattle.height.specs.Almanacs.{Almanac, ticks, height_at}
 use Rattle.height.specs.Spans.{height}
@@ -24,3 +25,10 @@ heights_in_turn m k t same start =
 
     in_turn_from : Almanac → ℕ → List ℤ
     in_turn_from n u = map (height_at n) (range_with_len u (ticks n - u))
+
+-- the heights of the first ticks, and the one that follows
+pub heights_more : (m n : Almanac) (t u : ℕ) (xs : List ℤ) (x : ℤ) → n ≡ m → u ≡ t + 1 → x ≡ height_at n t → xs ≡ in_turn (height_at m) t → xs ++ (x ∷ []) ≡ in_turn (height_at m) u
+heights_more m n t u xs x same next x-is xs-are =
+    (λ i. xs-are i ++ ((x-is ∙ ap (λ (k : Almanac). height_at k t) same) i ∷ []))
+    ∙ sym (map-range_with_len_more (height_at m) 0 t t (omega arith))
+    ∙ ap (in_turn (height_at m)) (sym next)

@@ -5,7 +5,7 @@ use height::file::View;
 use height::meter::Meter;
 use height::refusal::Refusal;
 use height::round::rounded;
-use reading::near::near;
+use reading::near::near_at;
 use std::num::f64_to_bits_with_nan;
 use std::process::Abort;
 use std::test::Fail;
@@ -187,7 +187,7 @@ fn check_near(
     height: u64,
     error: u64,
 ) -> Result<(), Refusal> {
-    let near = near(&At::new(&view, tick)?);
+    let near = near_at(&At::new(&view, tick)?);
     assert_eq!(rt; f64_to_bits_with_nan(near.height), height);
     assert_eq!(rt; f64_to_bits_with_nan(near.error), error);
     Ok(())

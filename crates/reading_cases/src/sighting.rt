@@ -3,7 +3,7 @@ use height::at::At;
 use height::file::View;
 use height::line::Line;
 use reading::answer::Sighting;
-use reading::sighting::sighting;
+use reading::sighting::sighting_at;
 use std::num::f64_to_bits_with_nan;
 use std::test::Fail;
 
@@ -73,7 +73,7 @@ fn bodies_are_seen_or_hidden(rt: HostRuntime) -> Result<(), Fail> {
         let view = View::try_from(&span[..])?;
         let line = Line::try_from(*line)?;
         let at = At::new(&view, *tick)?;
-        assert_eq!(rt; bits(sighting(&at, line)), *above);
+        assert_eq!(rt; bits(sighting_at(&at, line)), *above);
     }
     Ok(())
 }
