@@ -1,8 +1,8 @@
 -- Texts written one piece after the other. Assumes nothing.
-use Rattle.std.proofs.Common.{◌≡◌, ℕ, zero, suc, ◌/◌, ◌<◌, List, [], ◌∷◌, ◌++◌, length, get_or, ℤ, pos, refl, ap, arith}
+use Rattle.std.proofs.Common.{◌≡◌, ℕ, zero, suc, ◌/◌, ◌<◌, List, [], ◌∷◌, ◌++◌, length, get_or, ℤ, pos, Ok, Err, Result, refl, ap, ◌∙◌, append_assoc, arith}
 use Rattle.std.specs.List.{flat_map}
 use Rattle.std.specs.Simd.{first_chunks}
-use Rattle.text.specs.Answers.{span_bytes, numbers_bytes, part_bytes}
+use Rattle.text.specs.Answers.{Appends, span_bytes, numbers_bytes, part_bytes}
 
 -- a span's line, of its four numbers
 abbrev pub four_bytes : List ℤ → List ℕ
@@ -25,3 +25,8 @@ four_each (a ∷ b ∷ c ∷ d ∷ xs) (suc k) e = ap (λ (l : List ℕ). span_b
 pub part_each : (xs : List ℤ) → 0 < length xs → part_bytes xs ≡ flat_map four_bytes (first_chunks 4 (length xs / 4) xs)
 part_each [] h = absurd (omega arith)
 part_each (x ∷ xs) h = four_each (x ∷ xs) (length (x ∷ xs) / 4) refl
+
+-- one piece is written behind another
+pub then : {X : Type 0} (was a b mid is : List ℕ) (r : Result (Unit {0}) X) → mid ≡ was ++ a → Appends mid b is r → Appends was (a ++ b) is r
+then was a b mid is (Ok u) e h = h ∙ ap (λ (l : List ℕ). l ++ b) e ∙ append_assoc was a b
+then was a b mid is (Err x) e h = tt
