@@ -47,8 +47,8 @@ fn leading_digits(n: u128) -> u128
     nearest_multiple(n >> drop, n & (unit - 1), unit) * unit
 }
 
-// The same of an integer, which keeps its sign: over any power of two it is the nearest `f64` to h
-// over that power.
+// The same of an integer, which keeps its sign: over any power of two up to 2^500 it is the nearest
+// `f64` to h over that power.
 pub fn rounded(h: i128) -> i128
     requires { unsigned_abs h < 2 ^ 126 }
     ensures { (places : ℕ) → places ≤ 500 → RoundedOver places h result }

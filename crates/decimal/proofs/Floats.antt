@@ -55,15 +55,18 @@ module _ (bits : ℕ) (h : ℤ) (B : bits ≤ 63) (H : nat_abs h < 2 ^ (bits + 6
   pub float_fits : nat_abs (held h) < 2 ^ 126
   float_fits = subst (λ (z : ℤ). nat_abs z < 2 ^ 126) (sym held_is) below_126
 
-  pub rounded_fits : (r : ℤ) → ((k : ℕ) → nat_abs (held h) < 2 ^ k → nat_abs r ≤ 2 ^ k) → (bits ≤ 125) × (nat_abs (held r) / 2 ^ bits < 2 ^ 64)
-  rounded_fits r bound =
+  -- over p places, which are as many or more
+  pub rounded_fits : (p : ℕ) (r : ℤ) → ((k : ℕ) → nat_abs (held h) < 2 ^ k → nat_abs r ≤ 2 ^ k) → bits ≤ p → p ≤ 125 → (p ≤ 125) × (nat_abs (held r) / 2 ^ p < 2 ^ 64)
+  rounded_fits p r bound P Q =
       let small = bound (bits + 63) (subst (λ (z : ℤ). nat_abs z < 2 ^ (bits + 63)) (sym held_is) H) in
       let fits : nat_abs r ≤ 2 ^ 126 = le_trans small (pow_mono {i = bits + 63} {j = 126} (omega arith)) in
       let back : held r ≡ r = omega (arith, ints) in
-      (omega arith, subst (λ (z : ℤ). nat_abs z / 2 ^ bits < 2 ^ 64) (sym back) (whole_fits bits (nat_abs r) small))
+      (Q, subst (λ (z : ℤ). nat_abs z / 2 ^ p < 2 ^ 64) (sym back) (whole_fits p (nat_abs r) (le_trans small (pow_mono {i = bits + 63} {j = p + 63} (omega arith)))))
 
-  pub error_fits : (n a : ℕ) → n ≡ nat_abs (held h) → a ≡ leading_one (size n) → (bits + 53 ≤ 125) × (a / 2 ^ (bits + 53) < 2 ^ 64)
-  error_fits n a N A = (omega arith, one_fits bits n a (subst (λ (m : ℕ). m < 2 ^ (bits + 63)) (sym (N ∙ ap nat_abs held_is)) H) A)
+  pub error_fits : (p n a : ℕ) → n ≡ nat_abs (held h) → a ≡ leading_one (size n) → bits ≤ p → p ≤ 125 → (p ≤ 125) × (a / 2 ^ p < 2 ^ 64)
+  error_fits p n a N A P Q =
+      let below = one_below n a (bits + 63) (subst (λ (m : ℕ). m < 2 ^ (bits + 63)) (sym (N ∙ ap nat_abs held_is)) H) A in
+      (Q, whole_fits p a (le_of_lt (lt_of_lt_of_le below (pow_mono {i = bits + 63} {j = p + 63} (omega arith)))))
 
 -- ---- what both texts are read as
 module _ (bits : ℕ) (h : ℤ) (B : bits ≤ 400) (H : nat_abs h < 2 ^ (bits + 63)) where

@@ -46,7 +46,7 @@ impl Refusal {
     }
 
     // Why it is refused.
-    fn reason(self) -> &'static str
+    pub fn reason(self) -> &'static str
         ensures { result.now ≡ reason_text self }
     {
         match self {

@@ -10,4 +10,4 @@ rounded-requires g c =
 pub put_exact-requires : goal.put_exact-requires
 put_exact-requires g c =
     let n = c.args.self.now in
-    rounded_fits g.row.PLACES n.numerator n.places n.size c.rounded.result (c.rounded.ensures 0 (omega arith)).bound
+    rounded_fits g.row.PLACES n.numerator n.places n.size _ c.rounded.result (c.rounded.ensures 0 (omega arith)).bound (omega arith) (omega (arith, n.places))
