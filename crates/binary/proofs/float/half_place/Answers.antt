@@ -1,4 +1,4 @@
-use Rattle.std.proofs.Common.{ℕ, ◌^◌, ◌<◌, nat_abs, sym, ap, ◌∙◌, subst, lt_of_lt_of_le, lit≤}
+use Rattle.std.proofs.Common.{ℕ, ◌^◌, ◌<◌, nat_abs, sym, ap, ◌∙◌, subst, lt_of_lt_of_le, lit≤, arith, rules, tests}
 use mir.Syntax.{w128}
 use Rattle.std.proofs.lemmas.Int.{to_z-of_z}
 use Rattle.binary.proofs.Coded.{half_place_at, one_below}
@@ -12,5 +12,5 @@ nearest_u128-requires g c =
 pub returns : goal.returns
 returns g c =
     let n_is = c.unsigned_abs.ensures.value ∙ ap nat_abs (to_z-of_z w128 c.args.h c.ranges.h) in
-    let both = half_place_at g.row.PLACES c.args.h c.unsigned_abs.result c.leading_one.result c.nearest_u128.result c.power.result c.requires.places (lt_of_lt_of_le c.requires.size (lit≤ tt)) n_is c.leading_one.ensures c.nearest_u128.ensures c.power.ensures in
+    let both = half_place_at g.row.PLACES c.args.h c.unsigned_abs.result c.leading_one.result c.nearest_u128.result c.power.result c.requires.places (lt_of_lt_of_le c.requires.size (lit≤ tt)) n_is c.leading_one.ensures c.nearest_u128.ensures (search (rules, tests, arith)) in
     record { value = both.0; within = both.1 }
